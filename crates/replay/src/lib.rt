@@ -1,0 +1,1 @@
+// Demand 3, proved of the rules. All of this crate is in specs/.

@@ -1,0 +1,11 @@
+pub mod Sizes
+pub mod Chain
+pub mod ChainLaws
+pub mod States
+pub mod Balances
+pub mod Minimum
+pub mod Sound
+pub mod Steps
+pub mod Queries
+pub mod Calls
+pub mod Readings

@@ -1,0 +1,135 @@
+-- Ascending lists: one set has one list. Only what is needed of an order is asked for, law by law.
+use mathlib.Core.Path.{_≡_, refl, sym, ap, subst, _∙_}
+use mathlib.Core.Logic.{_⊎_, inl, inr, ⊎-elim}
+use mathlib.Core.Bool.{Bool, true, false, not, cond, _&&_, _||_}
+use mathlib.Core.List.{List, [], _∷_, List·Memᴰ, List·Memᴰ·head, List·Memᴰ·tail, List·Memᴰ·not-nil, List·Memᴰ·cases-cons, Memᴰ·cast}
+use Prim.Native.Nat.{ℕ, zero, suc, _≤_, _<_}
+use native.Mathlib.Omega.{arith}
+use lib.Dec.{T, T-not, not-T}
+use lib.ListN.{length}
+use Rattle.sets.specs.Sets.{any, all, keep, ascending, has, place, insert, together, once}
+use Rattle.sets.specs.Tests.{or-left, or-right, or-cases, and-left, and-right, and-both, T-cases, cond-true, cond-false, is-true, is-false}
+use Rattle.sets.specs.Laws.{any-intro, any-elim, any-none, keep-from, keep-holds, keep-intro, keep-all, place-from, insert-from, together-from}
+
+module _ {A : Type 0} (before : A → A → Bool) where
+  pub ascending-tail : (x : A) (l : List A) → T (ascending before (x ∷ l)) → T (ascending before l)
+  ascending-tail x [] t = tt
+  ascending-tail x (y ∷ l) t = and-right (before x y) (ascending before (y ∷ l)) t
+
+  pub ascending-cons : (x : A) (l : List A) → ((y : A) → List·Memᴰ y l → T (before x y)) → T (ascending before l) → T (ascending before (x ∷ l))
+  ascending-cons x [] f t = tt
+  ascending-cons x (y ∷ l) f t = and-both (before x y) (ascending before (y ∷ l)) (f y (List·Memᴰ·head refl)) t
+
+module _ {A : Type 0} (before : A → A → Bool) (trans : (a b c : A) → T (before a b) → T (before b c) → T (before a c)) where
+  -- the first is before all others
+  pub ascending-first : (x : A) (l : List A) → T (ascending before (x ∷ l)) → (y : A) → List·Memᴰ y l → T (before x y)
+  ascending-first x [] t y m = absurd (List·Memᴰ·not-nil m)
+  ascending-first x (z ∷ l) t y m =
+      let h : T (before x z) = and-left (before x z) (ascending before (z ∷ l)) t in
+      ⊎-elim
+      (λ (e : y ≡ z). subst (λ (u : A). T (before x u)) (sym e) h)
+      (λ (k : List·Memᴰ y l).
+          trans x z y h (ascending-first z l (and-right (before x z) (ascending before (z ∷ l)) t) y k))
+      (List·Memᴰ·cases-cons m)
+
+  pub ascending-keep : (p : A → Bool) (l : List A) → T (ascending before l) → T (ascending before (keep p l))
+  ascending-keep p [] t = tt
+  ascending-keep p (x ∷ l) t =
+      let r : T (ascending before (keep p l)) = ascending-keep p l (ascending-tail before x l t) in
+      let f : (y : A) → List·Memᴰ y (keep p l) → T (before x y) = λ y m. ascending-first x l t y (keep-from p l m) in
+      elim (p x) as (λ b. T (ascending before (cond b (x ∷ keep p l) (keep p l)))) [ true ↦ ascending-cons before x (keep p l) f r | false ↦ r ]
+
+  -- a new member, comparable with all others, is placed in order
+  pub place-ascending : (x : A) (l : List A) → ((y : A) → List·Memᴰ y l → T (before x y) ⊎ T (before y x)) → T (ascending before l) → T (ascending before (place before x l))
+  place-ascending x [] f t = tt
+  place-ascending x (z ∷ l) f t =
+      ⊎-elim
+      (λ (h : T (before x z)).
+          subst (λ (r : List A). T (ascending before r))
+          (sym (cond-true (before x z) (x ∷ z ∷ l) (z ∷ place before x l) h))
+          (and-both (before x z) (ascending before (z ∷ l)) h t))
+      (λ (h : T (not (before x z))).
+          let zx : T (before z x) = ⊎-elim (λ (k : T (before x z)). absurd (T-not (before x z) h k)) (λ (k : T (before z x)). k) (f z (List·Memᴰ·head refl)) in
+          let r : T (ascending before (place before x l)) = place-ascending x l (λ y m. f y (List·Memᴰ·tail m)) (ascending-tail before z l t) in
+          let g : (y : A) → List·Memᴰ y (place before x l) → T (before z y) =
+              λ y m.
+                  ⊎-elim
+                  (λ (e : y ≡ x). subst (λ (u : A). T (before z u)) (sym e) zx)
+                  (λ (k : List·Memᴰ y l). ascending-first z l t y k)
+                  (place-from before l m)
+          in
+          subst (λ (s : List A). T (ascending before s))
+          (sym (cond-false (before x z) (x ∷ z ∷ l) (z ∷ place before x l) h))
+          (ascending-cons before z (place before x l) g r))
+      (T-cases (before x z))
+
+  -- the same for a set with a member more, and for two sets together
+  pub insert-ascending :
+      (same : A → A → Bool) (x : A) (l : List A) →
+      ((y : A) → List·Memᴰ y l → T (not (same x y)) → T (before x y) ⊎ T (before y x)) → T (ascending before l) →
+      T (ascending before (insert same before x l))
+  insert-ascending same x l f t =
+      ⊎-elim
+      (λ (h : T (has same x l)). subst (λ (r : List A). T (ascending before r)) (sym (cond-true (has same x l) l (place before x l) h)) t)
+      (λ (h : T (not (has same x l))).
+          subst (λ (r : List A). T (ascending before r))
+          (sym (cond-false (has same x l) l (place before x l) h))
+          (place-ascending x l
+          (λ y m. f y m (not-T (same x y) (λ (s : T (same x y)). T-not (has same x l) h (any-intro (same x) m s))))
+          t))
+      (T-cases (has same x l))
+
+  pub together-ascending :
+      (same : A → A → Bool) (l m : List A) →
+      ((x y : A) → List·Memᴰ x m → List·Memᴰ y l ⊎ List·Memᴰ y m → T (not (same x y)) → T (before x y) ⊎ T (before y x)) →
+      T (ascending before l) → T (ascending before (together same before l m))
+  together-ascending same l [] f t = t
+  together-ascending same l (x ∷ m) f t =
+      insert-ascending same x (together same before l m)
+      (λ y k n.
+          f x y (List·Memᴰ·head refl)
+          (⊎-elim (λ (a : List·Memᴰ y l). inl a) (λ (b : List·Memᴰ y m). inr (List·Memᴰ·tail b)) (together-from same before l m k))
+          n)
+      (together-ascending same l m
+      (λ u v k g n.
+          f u v (List·Memᴰ·tail k)
+          (⊎-elim (λ (a : List·Memᴰ v l). inl a) (λ (b : List·Memᴰ v m). inr (List·Memᴰ·tail b)) g)
+          n)
+      t)
+
+  module _ (irrefl : (a : A) → T (before a a) → ⊥) where
+    -- two ascending lists with the same members are one list
+    pub ascending-one : (l m : List A) → T (ascending before l) → T (ascending before m) → ((x : A) → List·Memᴰ x l → List·Memᴰ x m) → ((x : A) → List·Memᴰ x m → List·Memᴰ x l) → l ≡ m
+    ascending-one [] [] s t f g = refl
+    ascending-one [] (y ∷ m) s t f g = absurd (List·Memᴰ·not-nil (g y (List·Memᴰ·head refl)))
+    ascending-one (x ∷ l) [] s t f g = absurd (List·Memᴰ·not-nil (f x (List·Memᴰ·head refl)))
+    ascending-one (x ∷ l) (y ∷ m) s t f g =
+        let e : x ≡ y = heads (List·Memᴰ·cases-cons (f x (List·Memᴰ·head refl))) (List·Memᴰ·cases-cons (g y (List·Memᴰ·head refl))) in
+        let r : l ≡ m =
+            ascending-one l m (ascending-tail before x l s) (ascending-tail before y m t)
+            (λ z k. later z k e (List·Memᴰ·cases-cons (f z (List·Memᴰ·tail k))))
+            (λ z k. later′ z k e (List·Memᴰ·cases-cons (g z (List·Memᴰ·tail k))))
+        in
+        λ i. e i ∷ r i
+      where
+        heads : (x ≡ y) ⊎ List·Memᴰ x m → (y ≡ x) ⊎ List·Memᴰ y l → x ≡ y
+        heads (inl e) k = e
+        heads (inr h) (inl e) = sym e
+        heads (inr h) (inr k) =
+            absurd (irrefl x (trans x y x (ascending-first x l s y k) (ascending-first y m t x h)))
+
+        later : (z : A) → List·Memᴰ z l → x ≡ y → (z ≡ y) ⊎ List·Memᴰ z m → List·Memᴰ z m
+        later z k e (inl d) = absurd (irrefl x (subst (λ (v : A). T (before x v)) (d ∙ sym e) (ascending-first x l s z k)))
+        later z k e (inr h) = h
+
+        later′ : (z : A) → List·Memᴰ z m → x ≡ y → (z ≡ x) ⊎ List·Memᴰ z l → List·Memᴰ z l
+        later′ z k e (inl d) = absurd (irrefl y (subst (λ (v : A). T (before y v)) (d ∙ e) (ascending-first y m t z k)))
+        later′ z k e (inr h) = h
+
+    -- an ascending list has each member once, for any sameness that no order allows
+    pub ascending-once : (same : A → A → Bool) → ((a b : A) → T (same a b) → T (before a b) → ⊥) → (l : List A) → T (ascending before l) → once same l ≡ l
+    ascending-once same never [] t = refl
+    ascending-once same never (x ∷ l) t =
+        ap (λ (r : List A). x ∷ keep (λ y. not (same x y)) r) (ascending-once same never l (ascending-tail before x l t))
+        ∙ ap (λ (r : List A). x ∷ r)
+        (keep-all (λ y. not (same x y)) l (λ y m. not-T (same x y) (λ (s : T (same x y)). never x y s (ascending-first x l t y m))))

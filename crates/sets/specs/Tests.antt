@@ -1,0 +1,71 @@
+-- Laws of tests: a Boolean that holds, as a fact, taken apart and put together.
+use mathlib.Core.Path.{_≡_, refl, sym, ap, subst}
+use mathlib.Core.Logic.{_⊎_, inl, inr}
+use mathlib.Core.Bool.{Bool, true, false, not, cond, _&&_, _||_}
+use mathlib.Core.List.{List, [], _∷_}
+use Prim.Native.Nat.{ℕ, zero, suc}
+use lib.Dec.{T}
+use lib.ListN.{getD}
+use Rattle.sets.specs.Sets.{every}
+
+pub or-left : (a b : Bool) → T a → T (a || b)
+or-left true b t = tt
+or-left false b t = absurd t
+
+pub or-right : (a b : Bool) → T b → T (a || b)
+or-right true b t = tt
+or-right false b t = t
+
+pub or-cases : (a b : Bool) → T (a || b) → T a ⊎ T b
+or-cases true b t = inl tt
+or-cases false b t = inr t
+
+pub and-left : (a b : Bool) → T (a && b) → T a
+and-left true b t = tt
+and-left false b t = absurd t
+
+pub and-right : (a b : Bool) → T (a && b) → T b
+and-right true b t = t
+and-right false b t = absurd t
+
+pub and-both : (a b : Bool) → T a → T b → T (a && b)
+and-both true b s t = t
+and-both false b s t = absurd s
+
+pub T-cases : (b : Bool) → T b ⊎ T (not b)
+T-cases true = inl tt
+T-cases false = inr tt
+
+pub not-not : (b : Bool) → T (not (not b)) → T b
+not-not true t = tt
+not-not false t = absurd t
+
+pub is-true : (b : Bool) → T b → b ≡ true
+is-true true t = refl
+is-true false t = absurd t
+
+pub is-false : (b : Bool) → T (not b) → b ≡ false
+is-false true t = absurd t
+is-false false t = refl
+
+-- two tests that imply each other are one
+pub same-test : (a b : Bool) → (T a → T b) → (T b → T a) → a ≡ b
+same-test true true f g = refl
+same-test true false f g = absurd (f tt)
+same-test false true f g = absurd (g tt)
+same-test false false f g = refl
+
+module _ {A : Type 0} where
+  pub cond-true : (b : Bool) (x y : A) → T b → cond b x y ≡ x
+  cond-true true x y t = refl
+  cond-true false x y t = absurd t
+
+  pub cond-false : (b : Bool) (x y : A) → T (not b) → cond b x y ≡ y
+  cond-false true x y t = absurd t
+  cond-false false x y t = refl
+
+-- the i-th of a list of tests that all hold (past the end there is nothing to hold)
+pub every-at : (l : List Bool) (i : ℕ) → T (every l) → T (getD l i true)
+every-at [] i t = tt
+every-at (b ∷ l) zero t = and-left b (every l) t
+every-at (b ∷ l) (suc i) t = every-at l i (and-right b (every l) t)
