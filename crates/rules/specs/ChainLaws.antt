@@ -64,9 +64,10 @@ beforeReference-cases a b t =
     ⊎-elim
     (λ (h : T (beforeNumber (a .number) (b .number))). inl h)
     (λ (h : T (sameNumber (a .number) (b .number) && ltb (a .index) (b .index))).
-        inr
-        (sameNumber-eq (a .number) (b .number) (and-left (sameNumber (a .number) (b .number)) (ltb (a .index) (b .index)) h),
-        ltb→lt (a .index) (b .index) (and-right (sameNumber (a .number) (b .number)) (ltb (a .index) (b .index)) h)))
+    inr (
+      sameNumber-eq (a .number) (b .number) (and-left (sameNumber (a .number) (b .number)) (ltb (a .index) (b .index)) h),
+      ltb→lt (a .index) (b .index) (and-right (sameNumber (a .number) (b .number)) (ltb (a .index) (b .index)) h),
+    ))
     (or-cases (beforeNumber (a .number) (b .number)) (sameNumber (a .number) (b .number) && ltb (a .index) (b .index)) t)
 
 pub beforeReference-number : (a b : Reference) → T (beforeNumber (a .number) (b .number)) → T (beforeReference a b)
@@ -91,19 +92,19 @@ pub beforeReference-trans : (a b c : Reference) → T (beforeReference a b) → 
 beforeReference-trans a b c s t =
     ⊎-elim
     (λ (h : T (beforeNumber (a .number) (b .number))).
-        ⊎-elim
-        (λ (k : T (beforeNumber (b .number) (c .number))).
-            beforeReference-number a c (beforeNumber-trans (a .number) (b .number) (c .number) h k))
-        (λ (k : (b .number ≡ c .number) × (b .index < c .index)).
-            beforeReference-number a c (subst (λ (n : Number). T (beforeNumber (a .number) n)) (k .0) h))
-        (beforeReference-cases b c t))
+    ⊎-elim
+    (λ (k : T (beforeNumber (b .number) (c .number))).
+    beforeReference-number a c (beforeNumber-trans (a .number) (b .number) (c .number) h k))
+    (λ (k : (b .number ≡ c .number) × (b .index < c .index)).
+    beforeReference-number a c (subst (λ (n : Number). T (beforeNumber (a .number) n)) (k .0) h))
+    (beforeReference-cases b c t))
     (λ (h : (a .number ≡ b .number) × (a .index < b .index)).
-        ⊎-elim
-        (λ (k : T (beforeNumber (b .number) (c .number))).
-            beforeReference-number a c (subst (λ (n : Number). T (beforeNumber n (c .number))) (sym (h .0)) k))
-        (λ (k : (b .number ≡ c .number) × (b .index < c .index)).
-            beforeReference-index a c (h .0 ∙ k .0) (omega arith))
-        (beforeReference-cases b c t))
+    ⊎-elim
+    (λ (k : T (beforeNumber (b .number) (c .number))).
+    beforeReference-number a c (subst (λ (n : Number). T (beforeNumber n (c .number))) (sym (h .0)) k))
+    (λ (k : (b .number ≡ c .number) × (b .index < c .index)).
+    beforeReference-index a c (h .0 ∙ k .0) (omega arith))
+    (beforeReference-cases b c t))
     (beforeReference-cases a b s)
 
 -- the same reference is not before; of two different ones, one is before the other
@@ -116,10 +117,10 @@ beforeReference-one a b n =
     ⊎-elim
     (λ (h : T (beforeNumber (a .number) (b .number))). inl (beforeReference-number a b h))
     (λ (h : T (not (beforeNumber (a .number) (b .number)))).
-        ⊎-elim
-        (λ (k : T (beforeNumber (b .number) (a .number))). inr (beforeReference-number b a k))
-        (λ (k : T (not (beforeNumber (b .number) (a .number)))). byIndex (beforeNumber-total (a .number) (b .number) h k))
-        (T-cases (beforeNumber (b .number) (a .number))))
+    ⊎-elim
+    (λ (k : T (beforeNumber (b .number) (a .number))). inr (beforeReference-number b a k))
+    (λ (k : T (not (beforeNumber (b .number) (a .number)))). byIndex (beforeNumber-total (a .number) (b .number) h k))
+    (T-cases (beforeNumber (b .number) (a .number))))
     (T-cases (beforeNumber (a .number) (b .number)))
   where
     byIndex : T (sameNumber (a .number) (b .number)) → T (beforeReference a b) ⊎ T (beforeReference b a)
@@ -128,16 +129,16 @@ beforeReference-one a b n =
         ⊎-elim
         (λ (h : T (ltb (a .index) (b .index))). inl (beforeReference-index a b e (ltb→lt (a .index) (b .index) h)))
         (λ (h : T (not (ltb (a .index) (b .index)))).
-            ⊎-elim
-            (λ (k : T (ltb (b .index) (a .index))). inr (beforeReference-index b a (sym e) (ltb→lt (b .index) (a .index) k)))
-            (λ (k : T (not (ltb (b .index) (a .index)))).
-                absurd
-                (T-not (sameReference a b) n
-                (and-both (sameNumber (a .number) (b .number)) (eqb (a .index) (b .index)) s
-                (subst (λ (j : ℕ). T (eqb (a .index) j))
-                (omega (arith, nltb→le (a .index) (b .index) h, nltb→le (b .index) (a .index) k))
-                (eqb-refl (a .index))))))
-            (T-cases (ltb (b .index) (a .index))))
+        ⊎-elim
+        (λ (k : T (ltb (b .index) (a .index))). inr (beforeReference-index b a (sym e) (ltb→lt (b .index) (a .index) k)))
+        (λ (k : T (not (ltb (b .index) (a .index)))).
+        absurd
+        (T-not (sameReference a b) n
+        (and-both (sameNumber (a .number) (b .number)) (eqb (a .index) (b .index)) s
+        (subst (λ (j : ℕ). T (eqb (a .index) j))
+        (omega (arith, nltb→le (a .index) (b .index) h, nltb→le (b .index) (a .index) k))
+        (eqb-refl (a .index))))))
+        (T-cases (ltb (b .index) (a .index))))
         (T-cases (ltb (a .index) (b .index)))
 
 -- ── outputs and transactions
@@ -173,24 +174,24 @@ pub sameTransaction-eq : (a b : Transaction) → T (sameTransaction a b) → a �
 unfolding sameTransaction
 sameTransaction-eq a b t =
     let f =
-        and-left
-        (sameNumber (a .number) (b .number) && sameList sameReference (a .inputs) (b .inputs))
-        (sameList sameOutput (a .outputs) (b .outputs))
-        t
+    and-left
+    (sameNumber (a .number) (b .number) && sameList sameReference (a .inputs) (b .inputs))
+    (sameList sameOutput (a .outputs) (b .outputs))
+    t
     in
     let n =
-        sameNumber-eq (a .number) (b .number)
-        (and-left (sameNumber (a .number) (b .number)) (sameList sameReference (a .inputs) (b .inputs)) f)
+    sameNumber-eq (a .number) (b .number)
+    (and-left (sameNumber (a .number) (b .number)) (sameList sameReference (a .inputs) (b .inputs)) f)
     in
     let x =
-        sameList-eq sameReference sameReference-eq (a .inputs) (b .inputs)
-        (and-right (sameNumber (a .number) (b .number)) (sameList sameReference (a .inputs) (b .inputs)) f)
+    sameList-eq sameReference sameReference-eq (a .inputs) (b .inputs)
+    (and-right (sameNumber (a .number) (b .number)) (sameList sameReference (a .inputs) (b .inputs)) f)
     in
     let y =
-        sameList-eq sameOutput sameOutput-eq (a .outputs) (b .outputs)
-        (and-right
-        (sameNumber (a .number) (b .number) && sameList sameReference (a .inputs) (b .inputs))
-        (sameList sameOutput (a .outputs) (b .outputs))
-        t)
+    sameList-eq sameOutput sameOutput-eq (a .outputs) (b .outputs)
+    (and-right
+    (sameNumber (a .number) (b .number) && sameList sameReference (a .inputs) (b .inputs))
+    (sameList sameOutput (a .outputs) (b .outputs))
+    t)
     in
     λ i. record { number = n i; inputs = x i; outputs = y i }

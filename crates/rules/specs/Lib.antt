@@ -8,4 +8,8 @@ pub mod Sound
 pub mod Steps
 pub mod Queries
 pub mod Calls
+pub mod Reading
+pub mod PaperReadings
+pub mod FurtherReadings
 pub mod Readings
+pub mod SharedInput

@@ -16,10 +16,11 @@ pub record Balances : Type 0 where
 unfoldable pub balances : Wallet → Balances
 balances w =
     cond (sound w)
-    (record
-    { answer = 0
-    ; available = availableBalance (w .present)
-    ; total = totalBalance (w .own) (w .present)
-    ; minimum = minimumBalance (w .own) (w .present)
-    ; payments = minimumPayments (w .own) (w .present) })
+    (record {
+      answer = 0;
+      available = availableBalance (w .present);
+      total = totalBalance (w .own) (w .present);
+      minimum = minimumBalance (w .own) (w .present);
+      payments = minimumPayments (w .own) (w .present);
+    })
     (record { answer = 9; available = 0; total = 0; minimum = 0; payments = 0 })

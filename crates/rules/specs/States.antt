@@ -65,35 +65,40 @@ blockExpected own expected b = withoutEntries (ownMade own b) expected
 -- The old state is kept under the new one; if eight were held, the oldest is let go.
 unfoldable pub afterBlock : Wallet → Block → Wallet
 afterBlock w b =
-    record
-    { own = w .own
-    ; present =
-        record
-        { utxo = blockUtxo (w .own) (w .present .utxo) b
-        ; pending = blockPending (w .present .pending) b
-        ; expected = blockExpected (w .own) (w .present .expected) b }
-    ; below = take (mostStates - 1) (states w) }
+    record {
+      own = w .own;
+      present =
+          record {
+            utxo = blockUtxo (w .own) (w .present .utxo) b;
+            pending = blockPending (w .present .pending) b;
+            expected = blockExpected (w .own) (w .present .expected) b;
+          };
+      below = take (mostStates - 1) (states w);
+    }
 
 -- Payment. Added to the present pending set; nothing else changes.
 unfoldable pub afterPayment : Wallet → Transaction → Wallet
 afterPayment w p =
-    record
-    { own = w .own
-    ; present =
-        record
-        { utxo = w .present .utxo
-        ; pending = withPayments (w .present .pending) (p ∷ [])
-        ; expected = w .present .expected }
-    ; below = w .below }
+    record {
+      own = w .own;
+      present =
+          record {
+            utxo = w .present .utxo;
+            pending = withPayments (w .present .pending) (p ∷ []);
+            expected = w .present .expected;
+          };
+      below = w .below;
+    }
 
 -- Rollback. With present state p and the state q below it: UTxO is q's; pending is p's and q's together; expected is
 -- p's expected, q's expected and p's UTxO together, without any reference in q's UTxO. p goes.
 unfoldable pub rolledBack : State → State → State
 rolledBack p q =
-    record
-    { utxo = q .utxo
-    ; pending = withPayments (q .pending) (p .pending)
-    ; expected = withoutEntries (q .utxo) (withEntries (q .expected) (p .expected ++ p .utxo)) }
+    record {
+      utxo = q .utxo;
+      pending = withPayments (q .pending) (p .pending);
+      expected = withoutEntries (q .utxo) (withEntries (q .expected) (p .expected ++ p .utxo));
+    }
 
 -- With no state below there is nothing to go back to, and the step is refused.
 abbrev pub backTo : List ℕ → State → List State → Wallet

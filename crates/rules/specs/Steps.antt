@@ -32,10 +32,11 @@ pub record Step : Type 0 where
 -- Accepted: the new wallet, and the available balance after less before. Refused: the wallet unchanged and movement 0.
 abbrev pub stepTo : ℕ → Wallet → Wallet → Step
 stepTo zero old new =
-    record
-    { wallet = new
-    ; answer = 0
-    ; movement = pos (availableBalance (new .present)) -ℤ pos (availableBalance (old .present)) }
+    record {
+      wallet = new;
+      answer = 0;
+      movement = pos (availableBalance (new .present)) -ℤ pos (availableBalance (old .present));
+    }
 stepTo (suc n) old new = record { wallet = old; answer = suc n; movement = pos 0 }
 
 -- 2: the payment's number is that of a pending payment, or of a UTxO or expected reference, in any held state

@@ -65,21 +65,23 @@ module _ {A : Type 0} where
   pub keep-from : (p : A → Bool) {x : A} (l : List A) → List·Memᴰ x (keep p l) → List·Memᴰ x l
   keep-from p [] m = m
   keep-from p {x} (y ∷ l) m =
-      (elim (p y) as (λ b. List·Memᴰ x (cond b (y ∷ keep p l) (keep p l)) → List·Memᴰ x (y ∷ l))
-      [ true ↦
-          λ (h : List·Memᴰ x (y ∷ keep p l)).
-              ⊎-elim (λ (e : x ≡ y). List·Memᴰ·head e) (λ (k : List·Memᴰ x (keep p l)). List·Memᴰ·tail (keep-from p l k)) (List·Memᴰ·cases-cons h)
-      | false ↦ λ (h : List·Memᴰ x (keep p l)). List·Memᴰ·tail (keep-from p l h) ])
+      (elim (p y) as (λ b. List·Memᴰ x (cond b (y ∷ keep p l) (keep p l)) → List·Memᴰ x (y ∷ l)) [
+        | true ↦
+            λ (h : List·Memᴰ x (y ∷ keep p l)).
+            ⊎-elim (λ (e : x ≡ y). List·Memᴰ·head e) (λ (k : List·Memᴰ x (keep p l)). List·Memᴰ·tail (keep-from p l k)) (List·Memᴰ·cases-cons h)
+        | false ↦ λ (h : List·Memᴰ x (keep p l)). List·Memᴰ·tail (keep-from p l h)
+      ])
       m
 
   pub keep-holds : (p : A → Bool) {x : A} (l : List A) → List·Memᴰ x (keep p l) → T (p x)
   keep-holds p [] m = absurd (List·Memᴰ·not-nil m)
   keep-holds p {x} (y ∷ l) m =
-      (elim (p y) as (λ b. (T b → T (p y)) → List·Memᴰ x (cond b (y ∷ keep p l) (keep p l)) → T (p x))
-      [ true ↦
-          λ (k : Unit {0} → T (p y)) (h : List·Memᴰ x (y ∷ keep p l)).
-              ⊎-elim (λ (e : x ≡ y). holds-at p y x (sym e) (k tt)) (λ (r : List·Memᴰ x (keep p l)). keep-holds p l r) (List·Memᴰ·cases-cons h)
-      | false ↦ λ (k : ⊥ → T (p y)) (h : List·Memᴰ x (keep p l)). keep-holds p l h ])
+      (elim (p y) as (λ b. (T b → T (p y)) → List·Memᴰ x (cond b (y ∷ keep p l) (keep p l)) → T (p x)) [
+        | true ↦
+            λ (k : Unit {0} → T (p y)) (h : List·Memᴰ x (y ∷ keep p l)).
+            ⊎-elim (λ (e : x ≡ y). holds-at p y x (sym e) (k tt)) (λ (r : List·Memᴰ x (keep p l)). keep-holds p l r) (List·Memᴰ·cases-cons h)
+        | false ↦ λ (k : ⊥ → T (p y)) (h : List·Memᴰ x (keep p l)). keep-holds p l h
+      ])
       (λ t. t)
       m
 
@@ -88,12 +90,12 @@ module _ {A : Type 0} where
   keep-intro p {x} (y ∷ l) m t =
       ⊎-elim
       (λ (e : x ≡ y).
-          subst (λ (k : List A). List·Memᴰ x k)
-          (sym (cond-true (p y) (y ∷ keep p l) (keep p l) (holds-at p x y e t)))
-          (List·Memᴰ·head {xs = keep p l} e))
+      subst (λ (k : List A). List·Memᴰ x k)
+      (sym (cond-true (p y) (y ∷ keep p l) (keep p l) (holds-at p x y e t)))
+      (List·Memᴰ·head {xs = keep p l} e))
       (λ (h : List·Memᴰ x l).
-          let r : List·Memᴰ x (keep p l) = keep-intro p l h t in
-          elim (p y) as (λ b. List·Memᴰ x (cond b (y ∷ keep p l) (keep p l))) [ true ↦ List·Memᴰ·tail r | false ↦ r ])
+      let r : List·Memᴰ x (keep p l) = keep-intro p l h t in
+      elim (p y) as (λ b. List·Memᴰ x (cond b (y ∷ keep p l) (keep p l))) [ true ↦ List·Memᴰ·tail r | false ↦ r ])
       (List·Memᴰ·cases-cons m)
 
   pub keep-append : (p : A → Bool) (l m : List A) → keep p (l ++ m) ≡ keep p l ++ keep p m
@@ -155,9 +157,9 @@ module _ {A : Type 0} where
       let h : total f (keep p l) + total f (keep (λ y. not (p y)) l) ≡ total f l = total-split f p l in
       elim (p x) as
       (λ b.
-          total f (cond b (x ∷ keep p l) (keep p l))
-          + total f (cond (not b) (x ∷ keep (λ y. not (p y)) l) (keep (λ y. not (p y)) l))
-          ≡ f x + total f l)
+      total f (cond b (x ∷ keep p l) (keep p l))
+      + total f (cond (not b) (x ∷ keep (λ y. not (p y)) l) (keep (λ y. not (p y)) l))
+      ≡ f x + total f l)
       [ true ↦ omega arith | false ↦ omega arith ]
 
   -- a stricter test keeps no more
@@ -167,10 +169,10 @@ module _ {A : Type 0} where
       let r : total f (keep p l) ≤ total f (keep q l) = total-narrower f p q l (λ y m. h y (List·Memᴰ·tail m)) in
       ⊎-elim
       (λ (t : T (p x)).
-          rw (cond-true (p x) (x ∷ keep p l) (keep p l) t, cond-true (q x) (x ∷ keep q l) (keep q l) (h x (List·Memᴰ·head refl) t)) (omega arith))
+      rw (cond-true (p x) (x ∷ keep p l) (keep p l) t, cond-true (q x) (x ∷ keep q l) (keep q l) (h x (List·Memᴰ·head refl) t)) (omega arith))
       (λ (t : T (not (p x))).
-          rw (cond-false (p x) (x ∷ keep p l) (keep p l) t)
-          (elim (q x) as (λ b. total f (keep p l) ≤ total f (cond b (x ∷ keep q l) (keep q l))) [ true ↦ omega arith | false ↦ omega arith ]))
+      rw (cond-false (p x) (x ∷ keep p l) (keep p l) t)
+      (elim (q x) as (λ b. total f (keep p l) ≤ total f (cond b (x ∷ keep q l) (keep q l))) [ true ↦ omega arith | false ↦ omega arith ]))
       (T-cases (p x))
 
   -- a sum of numbers each at most n
@@ -186,15 +188,16 @@ module _ {A : Type 0} where
   pub place-from : (before : A → A → Bool) {x y : A} (l : List A) → List·Memᴰ y (place before x l) → (y ≡ x) ⊎ List·Memᴰ y l
   place-from before [] m = List·Memᴰ·cases-cons m
   place-from before {x} {y} (z ∷ l) m =
-      (elim (before x z) as (λ b. List·Memᴰ y (cond b (x ∷ z ∷ l) (z ∷ place before x l)) → (y ≡ x) ⊎ List·Memᴰ y (z ∷ l))
-      [ true ↦ λ (h : List·Memᴰ y (x ∷ z ∷ l)). List·Memᴰ·cases-cons h
-      | false ↦
-          λ (h : List·Memᴰ y (z ∷ place before x l)).
-              ⊎-elim
-              (λ (e : y ≡ z). inr (List·Memᴰ·head e))
-              (λ (k : List·Memᴰ y (place before x l)).
-                  ⊎-elim (λ (e : y ≡ x). inl e) (λ (r : List·Memᴰ y l). inr (List·Memᴰ·tail r)) (place-from before l k))
-              (List·Memᴰ·cases-cons h) ])
+      (elim (before x z) as (λ b. List·Memᴰ y (cond b (x ∷ z ∷ l) (z ∷ place before x l)) → (y ≡ x) ⊎ List·Memᴰ y (z ∷ l)) [
+        | true ↦ λ (h : List·Memᴰ y (x ∷ z ∷ l)). List·Memᴰ·cases-cons h
+        | false ↦
+            λ (h : List·Memᴰ y (z ∷ place before x l)).
+            ⊎-elim
+            (λ (e : y ≡ z). inr (List·Memᴰ·head e))
+            (λ (k : List·Memᴰ y (place before x l)).
+            ⊎-elim (λ (e : y ≡ x). inl e) (λ (r : List·Memᴰ y l). inr (List·Memᴰ·tail r)) (place-from before l k))
+            (List·Memᴰ·cases-cons h)
+      ])
       m
 
   pub place-new : (before : A → A → Bool) (x : A) (l : List A) → List·Memᴰ x (place before x l)
@@ -207,9 +210,10 @@ module _ {A : Type 0} where
   place-old before x [] m = List·Memᴰ·tail m
   place-old before x {y} (z ∷ l) m =
       let r : List·Memᴰ y l → List·Memᴰ y (place before x l) = place-old before x l in
-      elim (before x z) as (λ b. List·Memᴰ y (cond b (x ∷ z ∷ l) (z ∷ place before x l)))
-      [ true ↦ List·Memᴰ·tail m
-      | false ↦ ⊎-elim (λ (e : y ≡ z). List·Memᴰ·head e) (λ (h : List·Memᴰ y l). List·Memᴰ·tail (r h)) (List·Memᴰ·cases-cons m) ]
+      elim (before x z) as (λ b. List·Memᴰ y (cond b (x ∷ z ∷ l) (z ∷ place before x l))) [
+        | true ↦ List·Memᴰ·tail m
+        | false ↦ ⊎-elim (λ (e : y ≡ z). List·Memᴰ·head e) (λ (h : List·Memᴰ y l). List·Memᴰ·tail (r h)) (List·Memᴰ·cases-cons m)
+      ]
 
   module _ (same before : A → A → Bool) where
     pub insert-from : {x y : A} (l : List A) → List·Memᴰ y (insert same before x l) → (y ≡ x) ⊎ List·Memᴰ y l
@@ -225,9 +229,10 @@ module _ {A : Type 0} where
     -- x itself, or what counts as x, is in the set with x
     pub insert-new : (x : A) (l : List A) → T (same x x) → (z : A) × List·Memᴰ z (insert same before x l) × T (same x z)
     insert-new x l t =
-        (elim (has same x l) as (λ b. (T b → T (has same x l)) → (z : A) × List·Memᴰ z (cond b l (place before x l)) × T (same x z))
-        [ true ↦ λ (k : Unit {0} → T (has same x l)). any-elim (same x) l (k tt)
-        | false ↦ λ (k : ⊥ → T (has same x l)). (x, place-new before x l, t) ])
+        (elim (has same x l) as (λ b. (T b → T (has same x l)) → (z : A) × List·Memᴰ z (cond b l (place before x l)) × T (same x z)) [
+          | true ↦ λ (k : Unit {0} → T (has same x l)). any-elim (same x) l (k tt)
+          | false ↦ λ (k : ⊥ → T (has same x l)). (x, place-new before x l, t)
+        ])
         (λ h. h)
 
     pub together-from : {y : A} (l m : List A) → List·Memᴰ y (together same before l m) → List·Memᴰ y l ⊎ List·Memᴰ y m
@@ -236,7 +241,7 @@ module _ {A : Type 0} where
         ⊎-elim
         (λ (e : y ≡ x). inr (List·Memᴰ·head e))
         (λ (k : List·Memᴰ y (together same before l m)).
-            ⊎-elim (λ (a : List·Memᴰ y l). inl a) (λ (b : List·Memᴰ y m). inr (List·Memᴰ·tail b)) (together-from l m k))
+        ⊎-elim (λ (a : List·Memᴰ y l). inl a) (λ (b : List·Memᴰ y m). inr (List·Memᴰ·tail b)) (together-from l m k))
         (insert-from (together same before l m) h)
 
     pub together-left : {y : A} (l m : List A) → List·Memᴰ y l → List·Memᴰ y (together same before l m)
@@ -249,11 +254,11 @@ module _ {A : Type 0} where
     together-right {y} l (x ∷ m) r h =
         ⊎-elim
         (λ (e : y ≡ x).
-            let k = insert-new x (together same before l m) (r x) in
-            (k .0, k .1, subst (λ (u : A). T (same u (k .0))) (sym e) (k .2)))
+        let k = insert-new x (together same before l m) (r x) in
+        (k .0, k .1, subst (λ (u : A). T (same u (k .0))) (sym e) (k .2)))
         (λ (h′ : List·Memᴰ y m).
-            let k = together-right l m r h′ in
-            (k .0, insert-old x (together same before l m) (k .1), k .2))
+        let k = together-right l m r h′ in
+        (k .0, insert-old x (together same before l m) (k .1), k .2))
         (List·Memᴰ·cases-cons h)
 
     -- where sameness is equality, y itself is there
@@ -309,11 +314,11 @@ module _ {A : Type 0} where
   choices-from {x} {c} (y ∷ l) m h =
       ⊎-elim
       (λ (k : List·Memᴰ c (map (λ d. y ∷ d) (choices l))).
-          let r = map-elim (λ (d : List A). y ∷ d) (choices l) k in
-          ⊎-elim
-          (λ (e : x ≡ y). List·Memᴰ·head e)
-          (λ (g : List·Memᴰ x (r .0)). List·Memᴰ·tail (choices-from l (r .1) g))
-          (List·Memᴰ·cases-cons (subst (λ (d : List A). List·Memᴰ x d) (r .2) h)))
+      let r = map-elim (λ (d : List A). y ∷ d) (choices l) k in
+      ⊎-elim
+      (λ (e : x ≡ y). List·Memᴰ·head e)
+      (λ (g : List·Memᴰ x (r .0)). List·Memᴰ·tail (choices-from l (r .1) g))
+      (List·Memᴰ·cases-cons (subst (λ (d : List A). List·Memᴰ x d) (r .2) h)))
       (λ (k : List·Memᴰ c (choices l)). List·Memᴰ·tail (choices-from l k h))
       (List·Memᴰ·append-cases (map (λ d. y ∷ d) (choices l)) k₀)
     where
@@ -325,9 +330,10 @@ module _ {A : Type 0} where
   choices-keep p [] = List·Memᴰ·head refl
   choices-keep p (x ∷ l) =
       let r : List·Memᴰ (keep p l) (choices l) = choices-keep p l in
-      elim (p x) as (λ b. List·Memᴰ (cond b (x ∷ keep p l) (keep p l)) (map (λ d. x ∷ d) (choices l) ++ choices l))
-      [ true ↦ Memᴰ·append-left (choices l) (map-intro (λ (d : List A). x ∷ d) r)
-      | false ↦ Memᴰ·append-right (map (λ d. x ∷ d) (choices l)) r ]
+      elim (p x) as (λ b. List·Memᴰ (cond b (x ∷ keep p l) (keep p l)) (map (λ d. x ∷ d) (choices l) ++ choices l)) [
+        | true ↦ Memᴰ·append-left (choices l) (map-intro (λ (d : List A). x ∷ d) r)
+        | false ↦ Memᴰ·append-right (map (λ d. x ∷ d) (choices l)) r
+      ]
 
   pub choices-length : (l : List A) → length (choices l) ≡ 2 ^ length l
   choices-length [] = refl

@@ -29,7 +29,7 @@ module _ {A : Type 0} (before : A → A → Bool) (trans : (a b c : A) → T (be
       ⊎-elim
       (λ (e : y ≡ z). subst (λ (u : A). T (before x u)) (sym e) h)
       (λ (k : List·Memᴰ y l).
-          trans x z y h (ascending-first z l (and-right (before x z) (ascending before (z ∷ l)) t) y k))
+      trans x z y h (ascending-first z l (and-right (before x z) (ascending before (z ∷ l)) t) y k))
       (List·Memᴰ·cases-cons m)
 
   pub ascending-keep : (p : A → Bool) (l : List A) → T (ascending before l) → T (ascending before (keep p l))
@@ -45,22 +45,22 @@ module _ {A : Type 0} (before : A → A → Bool) (trans : (a b c : A) → T (be
   place-ascending x (z ∷ l) f t =
       ⊎-elim
       (λ (h : T (before x z)).
-          subst (λ (r : List A). T (ascending before r))
-          (sym (cond-true (before x z) (x ∷ z ∷ l) (z ∷ place before x l) h))
-          (and-both (before x z) (ascending before (z ∷ l)) h t))
+      subst (λ (r : List A). T (ascending before r))
+      (sym (cond-true (before x z) (x ∷ z ∷ l) (z ∷ place before x l) h))
+      (and-both (before x z) (ascending before (z ∷ l)) h t))
       (λ (h : T (not (before x z))).
-          let zx : T (before z x) = ⊎-elim (λ (k : T (before x z)). absurd (T-not (before x z) h k)) (λ (k : T (before z x)). k) (f z (List·Memᴰ·head refl)) in
-          let r : T (ascending before (place before x l)) = place-ascending x l (λ y m. f y (List·Memᴰ·tail m)) (ascending-tail before z l t) in
-          let g : (y : A) → List·Memᴰ y (place before x l) → T (before z y) =
-              λ y m.
-                  ⊎-elim
-                  (λ (e : y ≡ x). subst (λ (u : A). T (before z u)) (sym e) zx)
-                  (λ (k : List·Memᴰ y l). ascending-first z l t y k)
-                  (place-from before l m)
-          in
-          subst (λ (s : List A). T (ascending before s))
-          (sym (cond-false (before x z) (x ∷ z ∷ l) (z ∷ place before x l) h))
-          (ascending-cons before z (place before x l) g r))
+      let zx : T (before z x) = ⊎-elim (λ (k : T (before x z)). absurd (T-not (before x z) h k)) (λ (k : T (before z x)). k) (f z (List·Memᴰ·head refl)) in
+      let r : T (ascending before (place before x l)) = place-ascending x l (λ y m. f y (List·Memᴰ·tail m)) (ascending-tail before z l t) in
+      let g : (y : A) → List·Memᴰ y (place before x l) → T (before z y) =
+      λ y m.
+      ⊎-elim
+      (λ (e : y ≡ x). subst (λ (u : A). T (before z u)) (sym e) zx)
+      (λ (k : List·Memᴰ y l). ascending-first z l t y k)
+      (place-from before l m)
+      in
+      subst (λ (s : List A). T (ascending before s))
+      (sym (cond-false (before x z) (x ∷ z ∷ l) (z ∷ place before x l) h))
+      (ascending-cons before z (place before x l) g r))
       (T-cases (before x z))
 
   -- the same for a set with a member more, and for two sets together
@@ -72,11 +72,11 @@ module _ {A : Type 0} (before : A → A → Bool) (trans : (a b c : A) → T (be
       ⊎-elim
       (λ (h : T (has same x l)). subst (λ (r : List A). T (ascending before r)) (sym (cond-true (has same x l) l (place before x l) h)) t)
       (λ (h : T (not (has same x l))).
-          subst (λ (r : List A). T (ascending before r))
-          (sym (cond-false (has same x l) l (place before x l) h))
-          (place-ascending x l
-          (λ y m. f y m (not-T (same x y) (λ (s : T (same x y)). T-not (has same x l) h (any-intro (same x) m s))))
-          t))
+      subst (λ (r : List A). T (ascending before r))
+      (sym (cond-false (has same x l) l (place before x l) h))
+      (place-ascending x l
+      (λ y m. f y m (not-T (same x y) (λ (s : T (same x y)). T-not (has same x l) h (any-intro (same x) m s))))
+      t))
       (T-cases (has same x l))
 
   pub together-ascending :
@@ -87,14 +87,14 @@ module _ {A : Type 0} (before : A → A → Bool) (trans : (a b c : A) → T (be
   together-ascending same l (x ∷ m) f t =
       insert-ascending same x (together same before l m)
       (λ y k n.
-          f x y (List·Memᴰ·head refl)
-          (⊎-elim (λ (a : List·Memᴰ y l). inl a) (λ (b : List·Memᴰ y m). inr (List·Memᴰ·tail b)) (together-from same before l m k))
-          n)
+      f x y (List·Memᴰ·head refl)
+      (⊎-elim (λ (a : List·Memᴰ y l). inl a) (λ (b : List·Memᴰ y m). inr (List·Memᴰ·tail b)) (together-from same before l m k))
+      n)
       (together-ascending same l m
       (λ u v k g n.
-          f u v (List·Memᴰ·tail k)
-          (⊎-elim (λ (a : List·Memᴰ v l). inl a) (λ (b : List·Memᴰ v m). inr (List·Memᴰ·tail b)) g)
-          n)
+      f u v (List·Memᴰ·tail k)
+      (⊎-elim (λ (a : List·Memᴰ v l). inl a) (λ (b : List·Memᴰ v m). inr (List·Memᴰ·tail b)) g)
+      n)
       t)
 
   module _ (irrefl : (a : A) → T (before a a) → ⊥) where
@@ -106,9 +106,9 @@ module _ {A : Type 0} (before : A → A → Bool) (trans : (a b c : A) → T (be
     ascending-one (x ∷ l) (y ∷ m) s t f g =
         let e : x ≡ y = heads (List·Memᴰ·cases-cons (f x (List·Memᴰ·head refl))) (List·Memᴰ·cases-cons (g y (List·Memᴰ·head refl))) in
         let r : l ≡ m =
-            ascending-one l m (ascending-tail before x l s) (ascending-tail before y m t)
-            (λ z k. later z k e (List·Memᴰ·cases-cons (f z (List·Memᴰ·tail k))))
-            (λ z k. later′ z k e (List·Memᴰ·cases-cons (g z (List·Memᴰ·tail k))))
+        ascending-one l m (ascending-tail before x l s) (ascending-tail before y m t)
+        (λ z k. later z k e (List·Memᴰ·cases-cons (f z (List·Memᴰ·tail k))))
+        (λ z k. later′ z k e (List·Memᴰ·cases-cons (g z (List·Memᴰ·tail k))))
         in
         λ i. e i ∷ r i
       where
