@@ -1,0 +1,5 @@
+pub mod Least
+pub mod Forced
+pub mod Payments
+pub mod Between
+pub mod Spendable

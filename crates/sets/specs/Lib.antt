@@ -2,3 +2,5 @@ pub mod Sets
 pub mod Tests
 pub mod Laws
 pub mod Order
+pub mod Walks
+pub mod Once
