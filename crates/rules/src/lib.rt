@@ -25,3 +25,22 @@ pub struct Entry {
     pub address: u32,
     pub amount: u64,
 }
+
+// The paper's sizes, once for all code. specs/Sizes.antt has them once for all definitions.
+pub const LARGEST_AMOUNT: u64 = 45_000_000_000_000_000;
+
+pub const MOST_OWN: usize = 32;
+
+pub const FEWEST_INPUTS: usize = 1;
+
+pub const MOST_INPUTS: usize = 8;
+
+pub const MOST_OUTPUTS: usize = 8;
+
+pub const MOST_TRANSACTIONS: usize = 16;
+
+pub const MOST_STATES: usize = 8;
+
+pub const MOST_PAYMENTS: usize = 16;
+
+pub const MOST_REFERENCES: usize = 128;
