@@ -6,10 +6,8 @@ use mathlib.Core.Path.{_≡_}
 use mathlib.Core.List.{List, List·Memᴰ}
 use Rattle.rules.specs.declared.Reference.{Reference}
 use Rattle.rules.specs.Chain.{Transaction, Block, spent}
-use Rattle.rules.specs.States.{Wallet}
 use Rattle.rules.specs.Steps.{opening}
-use Rattle.rules.specs.Calls.{Call}
-use Rattle.replay.specs.Log.{Accepted, Standing, Log, noLog, Run, run, replayed}
+use Rattle.replay.specs.Log.{Accepted, Standing, Log, noLog, Run, replayed}
 
 -- a block spends one of the payment's inputs
 abbrev pub SpendsAnInput : Block → Transaction → Type 0

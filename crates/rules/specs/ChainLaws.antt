@@ -1,9 +1,8 @@
 -- Sameness and order of numbers, references, outputs and transactions: sameness is equality (of entries: of their
 -- references), and the orders are strict and total.
-use mathlib.Core.Path.{_≡_, refl, sym, ap, ap₂, subst, _∙_}
+use mathlib.Core.Path.{_≡_, sym, subst, _∙_}
 use mathlib.Core.Logic.{_⊎_, inl, inr, ⊎-elim}
-use mathlib.Core.Bool.{Bool, true, false, not, _&&_, _||_}
-use mathlib.Core.List.{List, [], _∷_}
+use mathlib.Core.Bool.{not, _&&_}
 use Prim.Native.Nat.{ℕ, _<_}
 use native.Mathlib.Omega.{arith}
 use lib.Dec.{T, T-not, eqb, ltb, eqb→eq, eqb-refl, ltb→lt, nltb→le, lt→ltb}
@@ -13,8 +12,7 @@ use Rattle.sets.specs.Tests.{or-left, or-right, or-cases, and-left, and-right, 
 use Rattle.rules.specs.declared.Number.{Number}
 use Rattle.rules.specs.declared.Reference.{Reference}
 use Rattle.rules.specs.declared.Output.{Output}
-use Rattle.rules.specs.declared.Entry.{Entry}
-use Rattle.rules.specs.Chain.{sameNumber, beforeNumber, sameReference, beforeReference, sameOutput, beforeOutput, sameEntry, beforeEntry, Transaction, sameTransaction}
+use Rattle.rules.specs.Chain.{sameNumber, beforeNumber, sameReference, beforeReference, sameOutput, Transaction, sameTransaction}
 
 -- ── numbers: the only laws that look inside
 

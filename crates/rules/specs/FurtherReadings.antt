@@ -1,7 +1,6 @@
 -- Further readings: what the paper's marked ones let through shows here. Own addresses are 10 and 11 throughout.
-use mathlib.Core.List.{List, [], _∷_}
+use mathlib.Core.List.{[], _∷_}
 use lib.IntN.{pos}
-use Rattle.rules.specs.Chain.{Transaction}
 use Rattle.rules.specs.States.{Wallet}
 use Rattle.rules.specs.Calls.{blockCall, payCall, backCall}
 use Rattle.rules.specs.Reading.{number, at, out, entry, tx, row, less, Reading}

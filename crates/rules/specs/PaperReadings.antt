@@ -1,5 +1,5 @@
 -- The readings that the paper marks to be proved, with the whole of case F row by row. Own addresses are 10 and 11.
-use mathlib.Core.List.{List, [], _∷_}
+use mathlib.Core.List.{[], _∷_}
 use lib.ListN.{take}
 use lib.IntN.{pos}
 use Rattle.rules.specs.Chain.{Transaction}

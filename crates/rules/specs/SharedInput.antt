@@ -1,13 +1,13 @@
 -- The source's invariant 6.3, that pending payments never share an input, is false: a wallet that calls on an opened
 -- one reach, in which two pending payments share one.
-use mathlib.Core.Path.{_≡_, refl}
+use mathlib.Core.Path.{refl}
 use mathlib.Core.List.{List, [], _∷_, List·Memᴰ, List·Memᴰ·head, List·Memᴰ·tail}
 use Prim.Native.Nat.{ℕ}
 use lib.Dec.{T}
 use mathlib.Core.Bool.{not}
 use Rattle.rules.specs.declared.Reference.{Reference}
 use Rattle.rules.specs.Chain.{Transaction, sameTransaction, sameNumber, beforeNumber, shapedTransaction, shapedBlock, shapedOwn, isOwn}
-use Rattle.rules.specs.States.{Wallet, blockUtxo, blockPending, blockExpected, afterBlock, afterPayment, rolledBack, afterRollback}
+use Rattle.rules.specs.States.{blockUtxo, blockPending, blockExpected, afterBlock, afterPayment, rolledBack, afterRollback}
 use Rattle.rules.specs.Balances.{available}
 use Rattle.rules.specs.Sound.{tooMany, withinSizes, setsInOrder, sound}
 use Rattle.rules.specs.Steps.{numberTaken, inputMissing, paysTooMuch, alreadyUnspent, contradicts, paymentRefusals, blockRefusals, rollbackRefusals, pay, block, rollBack, opening}

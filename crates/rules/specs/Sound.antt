@@ -1,6 +1,5 @@
 -- Sound: what a wallet state handed in must fulfil. Clause by clause in the paper's order; unused places belong to the
 -- code's arrays and are not seen in the rules' lists.
-use Prim.Native.Nat.{ℕ}
 use mathlib.Core.Bool.{Bool, not, _&&_, _||_}
 use mathlib.Core.List.{List, [], _∷_, _++_}
 use lib.Dec.{leb}

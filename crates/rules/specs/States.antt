@@ -4,7 +4,7 @@ use Prim.Native.Nat.{ℕ, _-_}
 use mathlib.Core.Bool.{Bool, not}
 use mathlib.Core.List.{List, [], _∷_, _++_}
 use lib.ListN.{take}
-use Rattle.sets.specs.Sets.{any, has, keep, insert, together, gather}
+use Rattle.sets.specs.Sets.{any, has, keep, together}
 use Rattle.rules.specs.declared.Reference.{Reference}
 use Rattle.rules.specs.declared.Entry.{Entry}
 use Rattle.rules.specs.Sizes.{mostStates}

@@ -1,14 +1,13 @@
 -- The steps: opening, block, payment and rollback, with every refusal in the paper's order.
 use Prim.Native.Nat.{ℕ, zero, suc}
-use mathlib.Core.Bool.{Bool, true, false, not, cond, _&&_, _||_}
-use mathlib.Core.List.{List, [], _∷_, _++_}
+use mathlib.Core.Bool.{Bool, true, false, not, cond, _||_}
+use mathlib.Core.List.{List, [], _∷_}
 use lib.Dec.{leb}
 use lib.IntN.{ℤ, pos, _-ℤ_}
 use Rattle.sets.specs.Sets.{any, all, has, keep, total}
 use Rattle.rules.specs.declared.Number.{Number}
-use Rattle.rules.specs.declared.Entry.{Entry}
-use Rattle.rules.specs.Chain.{sameNumber, sameReference, sameEntry, sameValue, Transaction, sameTransaction, Block, made, worth, shapedTransaction, shapedBlock, shapedOwn}
-use Rattle.rules.specs.States.{State, Wallet, states, opened, afterBlock, afterPayment, afterRollback}
+use Rattle.rules.specs.Chain.{sameNumber, sameReference, sameEntry, Transaction, Block, made, worth, shapedTransaction, shapedBlock, shapedOwn}
+use Rattle.rules.specs.States.{State, Wallet, opened, afterBlock, afterPayment, afterRollback}
 use Rattle.rules.specs.Balances.{available, availableBalance}
 use Rattle.rules.specs.Minimum.{stands}
 use Rattle.rules.specs.Sound.{heldEntries, heldPayments, tooMany, agree, agreeing, sound}

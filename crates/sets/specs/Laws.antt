@@ -3,13 +3,13 @@ use mathlib.Core.Path.{_≡_, refl, sym, ap, subst, _∙_}
 use mathlib.Core.Logic.{_⊎_, inl, inr, ⊎-elim}
 use mathlib.Core.Bool.{Bool, true, false, not, cond, _&&_, _||_}
 use mathlib.Core.List.{List, [], _∷_, _++_, map, List·Memᴰ, List·Memᴰ·head, List·Memᴰ·tail, List·Memᴰ·not-nil, List·Memᴰ·cases-cons, Memᴰ·cast, Memᴰ·append-left, Memᴰ·append-right, List·Memᴰ·append-cases, append-assoc}
-use Prim.Native.Nat.{ℕ, zero, suc, _+_, _*_, _^_, _≤_, _<_, min}
+use Prim.Native.Nat.{ℕ, suc, _+_, _*_, _^_, _≤_}
 use native.Mathlib.Nat.{suc-mul, pow-suc}
 use native.Mathlib.Omega.{arith}
 use lib.Dec.{T, T-not, leb, leb→le, nleb→lt}
-use lib.ListN.{length, take, length-append, length-map}
-use Rattle.sets.specs.Sets.{leastOf, any, all, keep, total, pairwise, sameList, has, place, insert, together, once, choices, gather}
-use Rattle.sets.specs.Tests.{or-left, or-right, or-cases, and-left, and-right, and-both, T-cases, is-true, is-false, same-test, cond-true, cond-false}
+use lib.ListN.{length, length-append, length-map}
+use Rattle.sets.specs.Sets.{leastOf, any, all, keep, total, sameList, has, place, insert, together, choices, gather}
+use Rattle.sets.specs.Tests.{or-left, or-right, or-cases, and-left, and-right, and-both, T-cases, cond-true, cond-false}
 
 module _ {A : Type 0} where
   -- a test carried along an equation

@@ -4,3 +4,4 @@ pub mod Laws
 pub mod Order
 pub mod Walks
 pub mod Once
+pub mod Count

@@ -1,15 +1,12 @@
 -- Ascending lists: one set has one list. Only what is needed of an order is asked for, law by law.
 use mathlib.Core.Path.{_≡_, refl, sym, ap, subst, _∙_}
 use mathlib.Core.Logic.{_⊎_, inl, inr, ⊎-elim}
-use mathlib.Core.Bool.{Bool, true, false, not, cond, _&&_, _||_}
-use mathlib.Core.List.{List, [], _∷_, List·Memᴰ, List·Memᴰ·head, List·Memᴰ·tail, List·Memᴰ·not-nil, List·Memᴰ·cases-cons, Memᴰ·cast}
-use Prim.Native.Nat.{ℕ, zero, suc, _≤_, _<_}
-use native.Mathlib.Omega.{arith}
+use mathlib.Core.Bool.{Bool, true, false, not, cond}
+use mathlib.Core.List.{List, [], _∷_, List·Memᴰ, List·Memᴰ·head, List·Memᴰ·tail, List·Memᴰ·not-nil, List·Memᴰ·cases-cons}
 use lib.Dec.{T, T-not, not-T}
-use lib.ListN.{length}
 use Rattle.sets.specs.Sets.{any, all, keep, ascending, has, place, insert, together, once}
-use Rattle.sets.specs.Tests.{or-left, or-right, or-cases, and-left, and-right, and-both, T-cases, cond-true, cond-false, is-true, is-false}
-use Rattle.sets.specs.Laws.{any-intro, any-elim, any-none, keep-from, keep-holds, keep-intro, keep-all, place-from, insert-from, together-from}
+use Rattle.sets.specs.Tests.{and-left, and-right, and-both, T-cases, cond-true, cond-false}
+use Rattle.sets.specs.Laws.{any-intro, keep-from, keep-all, place-from, together-from}
 
 module _ {A : Type 0} (before : A → A → Bool) where
   pub ascending-tail : (x : A) (l : List A) → T (ascending before (x ∷ l)) → T (ascending before l)

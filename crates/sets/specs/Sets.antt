@@ -1,9 +1,8 @@
 -- Lists used as sets: the few words in which the rules are written.
 -- A test is a Boolean function. `same` says when two members count as one, `before` gives a set its one order.
-use Prim.Native.Nat.{ℕ, zero, suc, _+_, min}
+use Prim.Native.Nat.{ℕ, _+_, min}
 use mathlib.Core.Bool.{Bool, true, false, not, cond, _&&_, _||_}
 use mathlib.Core.List.{List, [], _∷_, _++_, map}
-use lib.Dec.{leb}
 
 -- every test of a list holds
 abbrev pub every : List Bool → Bool

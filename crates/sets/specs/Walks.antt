@@ -1,16 +1,15 @@
 -- Laws for loops: what a test or a sum over the first i members becomes with one member more.
-use mathlib.Core.Path.{_≡_, refl, sym, ap, subst, _∙_}
-use mathlib.Core.Bool.{Bool, true, false, not, cond, _&&_, _||_}
-use mathlib.Core.List.{List, [], _∷_, _++_, map}
+use mathlib.Core.Path.{_≡_, refl, ap, _∙_}
+use mathlib.Core.Bool.{Bool, true, false, _&&_, _||_}
+use mathlib.Core.List.{List, [], _∷_}
 use Prim.Native.Nat.{ℕ, zero, suc, _+_, _-_, _≤_, _<_, max}
 use native.Mathlib.Nat.{not-suc-le-zero, le-of-suc-le-suc}
 use native.Mathlib.Numerals.{add-one, sub-one}
 use native.Mathlib.Omega.{arith}
-use lib.Dec.{T}
-use lib.ListN.{length, getD, take, drop}
+use lib.ListN.{length, getD, take}
 use lib.Seq.{take-suc}
-use Rattle.sets.specs.Sets.{any, all, keep, total, ascending}
-use Rattle.sets.specs.Laws.{any-append, all-append, keep-append, total-append}
+use Rattle.sets.specs.Sets.{any, all, total, ascending}
+use Rattle.sets.specs.Laws.{any-append, all-append, total-append}
 
 and-true : (b : Bool) → (b && true) ≡ b
 and-true true = refl

@@ -1,0 +1,11 @@
+pub mod Orders
+pub mod Facts
+pub mod Made
+pub mod Refused
+pub mod Payment
+pub mod Room
+pub mod BlockKept
+pub mod RollbackKept
+pub mod Kept
+pub mod Bounds
+pub mod Return
