@@ -5,3 +5,4 @@ pub mod Order
 pub mod Walks
 pub mod Once
 pub mod Count
+pub mod Bytes

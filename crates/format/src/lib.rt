@@ -1,0 +1,1 @@
+// The feed's format. All of this crate is in specs/.
