@@ -72,6 +72,17 @@ module _ {A : Type 0} (before : A → A → Bool) (trans : (a b c : A) → T (be
           inr (inr (subst (λ (u : A). T (before u x)) (sym d) (ascending-first before trans z l t x k)))
       go r (inr h) (inr k) = r h k
 
+  -- two members of an ascending list, neither before the other, are one
+  pub ascending-neither :
+      {x y : A} (l : List A) → T (ascending before l) → List·Memᴰ x l → List·Memᴰ y l →
+      (T (before x y) → ⊥) → (T (before y x) → ⊥) → x ≡ y
+  ascending-neither {x} {y} l t m n f g =
+      ⊎-elim
+      (λ (e : x ≡ y). e)
+      (λ (h : T (before x y) ⊎ T (before y x)).
+      absurd (⊎-elim (λ (k : T (before x y)). f k) (λ (k : T (before y x)). g k) h))
+      (ascending-two l t m n)
+
   -- an ascending list has no repeats, for any sameness that no order allows
   pub ascending-different :
       (same : A → A → Bool) → ((a b : A) → T (same a b) → T (before a b) → ⊥) → (l : List A) → T (ascending before l) →
@@ -172,3 +183,22 @@ module _ {A : Type 0} (same : A → A → Bool) (symm : (a b : A) → T (same a 
         (λ (k : List·Memᴰ x []). absurd (List·Memᴰ·not-nil k))
         (λ (k : List·Memᴰ x l). f x k)
         (together-from same before [] l h))
+
+    -- the set of a list has as many members as any list of the same members without repeats
+    pub set-length :
+        (before : A → A → Bool) → ((a : A) → T (same a a)) → (l u : List A) → T (pairwise (λ a b. not (same a b)) u) →
+        ((x : A) → List·Memᴰ x l → List·Memᴰ x u) → ((x : A) → List·Memᴰ x u → List·Memᴰ x l) →
+        length (together same before [] l) ≡ length u
+    set-length before refl-same l u t f g =
+        let fewer : length (together same before [] l) ≤ length u =
+        different-fewer (together same before [] l) u (together-different before [] l tt)
+        (λ x h.
+        ⊎-elim
+        (λ (k : List·Memᴰ x []). absurd (List·Memᴰ·not-nil k))
+        (λ (k : List·Memᴰ x l). any-intro (same x) (f x k) (refl-same x))
+        (together-from same before [] l h))
+        in
+        let more : length u ≤ length (together same before [] l) =
+        different-fewer-set before refl-same u l t (λ x h. any-intro (same x) (g x h) (refl-same x))
+        in
+        omega arith

@@ -215,6 +215,12 @@ module _ {A : Type 0} where
         | false ↦ ⊎-elim (λ (e : y ≡ z). List·Memᴰ·head e) (λ (h : List·Memᴰ y l). List·Memᴰ·tail (r h)) (List·Memᴰ·cases-cons m)
       ]
 
+  pub place-length : (before : A → A → Bool) (x : A) (l : List A) → length (place before x l) ≡ suc (length l)
+  place-length before x [] = refl
+  place-length before x (y ∷ l) =
+      elim (before x y) as (λ b. length (cond b (x ∷ y ∷ l) (y ∷ place before x l)) ≡ suc (suc (length l)))
+      [ true ↦ refl | false ↦ ap suc (place-length before x l) ]
+
   module _ (same before : A → A → Bool) where
     pub insert-from : {x y : A} (l : List A) → List·Memᴰ y (insert same before x l) → (y ≡ x) ⊎ List·Memᴰ y l
     insert-from {x} {y} l m =
@@ -243,6 +249,11 @@ module _ {A : Type 0} where
         (λ (k : List·Memᴰ y (together same before l m)).
         ⊎-elim (λ (a : List·Memᴰ y l). inl a) (λ (b : List·Memᴰ y m). inr (List·Memᴰ·tail b)) (together-from l m k))
         (insert-from (together same before l m) h)
+
+    -- two lists put together with a set, one after the other
+    pub together-append : (l m n : List A) → together same before l (m ++ n) ≡ together same before (together same before l n) m
+    together-append l [] n = refl
+    together-append l (x ∷ m) n = ap (insert same before x) (together-append l m n)
 
     pub together-left : {y : A} (l m : List A) → List·Memᴰ y l → List·Memᴰ y (together same before l m)
     together-left l [] h = h

@@ -5,4 +5,11 @@ pub mod Order
 pub mod Walks
 pub mod Once
 pub mod Count
+pub mod Maps
+pub mod Picks
 pub mod Bytes
+pub mod Fill
+pub mod Placing
+pub mod Words
+pub mod Sums
+pub mod Marks

@@ -9,6 +9,7 @@ use native.Mathlib.Omega.{arith}
 use lib.Dec.{T, T-not, not-T}
 use Rattle.sets.specs.Sets.{leastOf, any, all, keep, total, pairwise, once, choices, gather}
 use Rattle.sets.specs.Tests.{and-left, and-right, and-both, T-cases, cond-true, cond-false}
+use Rattle.sets.specs.Tests.{neither}
 use Rattle.sets.specs.Laws.{all-intro, all-elim, keep-from, keep-holds, keep-intro, keep-append, keep-all, keep-same, keep-keep, total-append, total-keep, total-narrower, map-intro, map-elim, choices-from, choices-keep, leastOf-below, leastOf-in}
 
 module _ {A : Type 0} (f : A → ℕ) where
@@ -19,13 +20,6 @@ module _ {A : Type 0} (f : A → ℕ) where
   pub least-reached : {x : A} (l : List A) → List·Memᴰ x l → (y : A) × List·Memᴰ y l × (leastOf (map f l) ≡ f y)
   least-reached [] m = absurd (List·Memᴰ·not-nil m)
   least-reached (z ∷ l) m = map-elim f (z ∷ l) (leastOf-in (f z) (map f l))
-
--- neither of two tests
-pub neither : (a b : Bool) → (not b && not a) ≡ not (a || b)
-neither true true = refl
-neither true false = refl
-neither false true = refl
-neither false false = refl
 
 -- ── sums over other lists
 

@@ -1,12 +1,13 @@
--- Ascending lists: one set has one list. Only what is needed of an order is asked for, law by law.
+-- Ascending lists: one set has one list, and what is made of ascending lists ascends. Only what is needed of an order is
+-- asked for, law by law.
 use mathlib.Core.Path.{_≡_, refl, sym, ap, subst, _∙_}
 use mathlib.Core.Logic.{_⊎_, inl, inr, ⊎-elim}
 use mathlib.Core.Bool.{Bool, true, false, not, cond}
-use mathlib.Core.List.{List, [], _∷_, List·Memᴰ, List·Memᴰ·head, List·Memᴰ·tail, List·Memᴰ·not-nil, List·Memᴰ·cases-cons}
+use mathlib.Core.List.{List, [], _∷_, _++_, map, List·Memᴰ, List·Memᴰ·head, List·Memᴰ·tail, List·Memᴰ·not-nil, List·Memᴰ·cases-cons, List·Memᴰ·append-cases}
 use lib.Dec.{T, T-not, not-T}
-use Rattle.sets.specs.Sets.{any, all, keep, ascending, has, place, insert, together, once}
+use Rattle.sets.specs.Sets.{keep, ascending, has, place, insert, together, once, gather}
 use Rattle.sets.specs.Tests.{and-left, and-right, and-both, T-cases, cond-true, cond-false}
-use Rattle.sets.specs.Laws.{any-intro, keep-from, keep-all, place-from, together-from}
+use Rattle.sets.specs.Laws.{any-intro, keep-from, keep-all, place-from, together-from, gather-elim}
 
 module _ {A : Type 0} (before : A → A → Bool) where
   pub ascending-tail : (x : A) (l : List A) → T (ascending before (x ∷ l)) → T (ascending before l)
@@ -16,6 +17,18 @@ module _ {A : Type 0} (before : A → A → Bool) where
   pub ascending-cons : (x : A) (l : List A) → ((y : A) → List·Memᴰ y l → T (before x y)) → T (ascending before l) → T (ascending before (x ∷ l))
   ascending-cons x [] f t = tt
   ascending-cons x (y ∷ l) f t = and-both (before x y) (ascending before (y ∷ l)) (f y (List·Memᴰ·head refl)) t
+
+module _ {A B : Type 0} where
+  -- a map that keeps an order keeps a list ascending
+  pub ascending-mapped :
+      (before : A → A → Bool) (after : B → B → Bool) (f : A → B) → ((x y : A) → T (before x y) → T (after (f x) (f y))) →
+      (l : List A) → T (ascending before l) → T (ascending after (map f l))
+  ascending-mapped before after f h [] t = tt
+  ascending-mapped before after f h (x ∷ []) t = tt
+  ascending-mapped before after f h (x ∷ y ∷ l) t =
+      and-both (after (f x) (f y)) (ascending after (map f (y ∷ l)))
+      (h x y (and-left (before x y) (ascending before (y ∷ l)) t))
+      (ascending-mapped before after f h (y ∷ l) (and-right (before x y) (ascending before (y ∷ l)) t))
 
 module _ {A : Type 0} (before : A → A → Bool) (trans : (a b c : A) → T (before a b) → T (before b c) → T (before a c)) where
   -- the first is before all others
@@ -130,3 +143,34 @@ module _ {A : Type 0} (before : A → A → Bool) (trans : (a b c : A) → T (be
         ap (λ (r : List A). x ∷ keep (λ y. not (same x y)) r) (ascending-once same never l (ascending-tail before x l t))
         ∙ ap (λ (r : List A). x ∷ r)
         (keep-all (λ y. not (same x y)) l (λ y m. not-T (same x y) (λ (s : T (same x y)). never x y s (ascending-first x l t y m))))
+
+-- ── lists one after another
+
+module _ {A : Type 0} (before : A → A → Bool) (trans : (a b c : A) → T (before a b) → T (before b c) → T (before a c)) where
+  -- two ascending lists, all of the first before all of the second
+  pub ascending-append :
+      (l m : List A) → T (ascending before l) → T (ascending before m) →
+      ((x y : A) → List·Memᴰ x l → List·Memᴰ y m → T (before x y)) → T (ascending before (l ++ m))
+  ascending-append [] m s t h = t
+  ascending-append (x ∷ l) m s t h =
+      ascending-cons before x (l ++ m)
+      (λ y k.
+      ⊎-elim
+      (λ (a : List·Memᴰ y l). ascending-first before trans x l s y a)
+      (λ (b : List·Memᴰ y m). h x y (List·Memᴰ·head refl) b)
+      (List·Memᴰ·append-cases l k))
+      (ascending-append l m (ascending-tail before x l s) t (λ u v a b. h u v (List·Memᴰ·tail a) b))
+
+  -- ascending lists of ascending members, each before those of the next
+  pub ascending-gather :
+      {B : Type 0} (ahead : B → B → Bool) → ((a b c : B) → T (ahead a b) → T (ahead b c) → T (ahead a c)) →
+      (f : B → List A) → ((u v : B) (x y : A) → T (ahead u v) → List·Memᴰ x (f u) → List·Memᴰ y (f v) → T (before x y)) →
+      (l : List B) → T (ascending ahead l) → ((u : B) → List·Memᴰ u l → T (ascending before (f u))) →
+      T (ascending before (gather f l))
+  ascending-gather ahead ahead-trans f h [] t each = tt
+  ascending-gather ahead ahead-trans f h (u ∷ l) t each =
+      ascending-append (f u) (gather f l) (each u (List·Memᴰ·head refl))
+      (ascending-gather ahead ahead-trans f h l (ascending-tail ahead u l t) (λ v m. each v (List·Memᴰ·tail m)))
+      (λ x y a b.
+      let r = gather-elim f l b in
+      h u (r .0) x y (ascending-first ahead ahead-trans u l t (r .0) (r .1)) a (r .2))

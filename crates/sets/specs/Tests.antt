@@ -1,10 +1,10 @@
 -- Laws of tests: a Boolean that holds, as a fact, taken apart and put together.
-use mathlib.Core.Path.{_≡_, refl}
+use mathlib.Core.Path.{_≡_, refl, subst}
 use mathlib.Core.Logic.{_⊎_, inl, inr}
 use mathlib.Core.Bool.{Bool, true, false, not, cond, _&&_, _||_}
 use mathlib.Core.List.{List, [], _∷_}
 use Prim.Native.Nat.{ℕ, zero, suc}
-use lib.Dec.{T}
+use lib.Dec.{T, eqb, eqb-refl}
 use lib.ListN.{getD}
 use Rattle.sets.specs.Sets.{every}
 
@@ -47,6 +47,34 @@ is-true false t = absurd t
 pub is-false : (b : Bool) → T (not b) → b ≡ false
 is-false true t = absurd t
 is-false false t = refl
+
+-- neither of two tests
+pub neither : (a b : Bool) → (not b && not a) ≡ not (a || b)
+neither true true = refl
+neither true false = refl
+neither false true = refl
+neither false false = refl
+
+-- two tests, neither of which fails
+pub none-failed : (a b : Bool) → T (not (not a || not b)) → T a × T b
+none-failed true true t = (tt, tt)
+none-failed true false t = absurd t
+none-failed false b t = absurd t
+
+pub neither-fails : (a b : Bool) → T a → T b → T (not (not a || not b))
+neither-fails true true s t = tt
+neither-fails true false s t = absurd t
+neither-fails false b s t = absurd s
+
+-- two tests, one of which fails
+pub one-fails : (a b : Bool) → T (not a) ⊎ T (not b) → T (not (a && b))
+one-fails true b (inl t) = absurd t
+one-fails true b (inr t) = t
+one-fails false b t = tt
+
+-- equal numbers
+pub equal-holds : (m n : ℕ) → m ≡ n → T (eqb m n)
+equal-holds m n e = subst (λ (k : ℕ). T (eqb m k)) e (eqb-refl m)
 
 -- two tests that imply each other are one
 pub same-test : (a b : Bool) → (T a → T b) → (T b → T a) → a ≡ b

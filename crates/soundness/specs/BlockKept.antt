@@ -20,7 +20,8 @@ use Rattle.rules.specs.States.{State, Wallet, states, withEntries, ownMade, spe
 use Rattle.rules.specs.Sound.{heldEntries, heldPayments, agree, agreeing, sound}
 use Rattle.rules.specs.Steps.{alreadyUnspent, contradicts}
 use Rattle.soundness.specs.Orders.{sameEntry-sym, beforeEntry-trans, beforeEntry-one, beforeTransaction-trans}
-use Rattle.soundness.specs.Facts.{none-failed, Sound, sound-facts, facts-sound, agree-equal, agreeing-equal, held-utxo, held-expected, held-pending, room-kept}
+use Rattle.sets.specs.Tests.{none-failed}
+use Rattle.soundness.specs.Facts.{Sound, sound-facts, facts-sound, agree-equal, agreeing-equal, held-utxo, held-expected, held-pending, room-kept}
 use Rattle.soundness.specs.Made.{makes-number, same-entry-number, makes-once, made-once, makes-amounts, block-transactions-shaped}
 use Rattle.soundness.specs.Refused.{AcceptedBlock}
 

@@ -2,14 +2,16 @@
 -- come from.
 use mathlib.Core.Path.{_≡_, subst}
 use mathlib.Core.Logic.{⊎-elim}
-use mathlib.Core.Bool.{Bool, true, false, not, _&&_, _||_}
+use mathlib.Core.Bool.{Bool, not, _&&_}
 use mathlib.Core.List.{List, [], _∷_, _++_, List·Memᴰ, Memᴰ·append-left, Memᴰ·append-right}
 use Prim.Native.Nat.{ℕ, _≤_}
 use lib.Dec.{T, T-not, eqb, leb, leb→le, le→leb, eqb→eq, eqb-refl}
 use lib.ListN.{length}
-use Rattle.sets.specs.Sets.{every, all, has, ascending}
-use Rattle.sets.specs.Tests.{or-left, or-right, or-cases, and-left, and-right, and-both, T-cases, every-at}
+use Rattle.sets.specs.Sets.{all, has, ascending}
+use Rattle.sets.specs.Tests.{or-left, or-right, or-cases, and-left, and-right, and-both, T-cases, neither-fails, every-at}
+use Rattle.sets.specs.Tests.{none-failed}
 use Rattle.sets.specs.Laws.{any-intro, any-none, all-intro, all-elim, gather-intro}
+use Rattle.sets.specs.Walks.{every-holds}
 use Rattle.rules.specs.declared.Entry.{Entry}
 use Rattle.rules.specs.Sizes.{largestAmount, mostStates, mostPayments, mostReferences}
 use Rattle.rules.specs.Chain.{sameNumber, sameEntry, beforeEntry, sameValue, Transaction, sameTransaction, beforeTransaction, made, shapedTransaction, shapedOwn, isOwn}
@@ -87,17 +89,6 @@ pub record Sound (w : Wallet) : Type 0 where
   pub one-value : (e f : Entry) → List·Memᴰ e (heldEntries w) → List·Memᴰ f (heldEntries w) → T (sameEntry e f) → e ≡ f
   pub one-content : (p q : Transaction) → List·Memᴰ p (heldPayments w) → List·Memᴰ q (heldPayments w) → T (sameNumber (p .number) (q .number)) → p ≡ q
   pub outputs-agree : (o e : Entry) → List·Memᴰ o (made (heldPayments w)) → List·Memᴰ e (heldEntries w) → T (sameEntry o e) → o ≡ e
-
--- two tests, neither of which fails
-pub none-failed : (a b : Bool) → T (not (not a || not b)) → T a × T b
-none-failed true true t = (tt, tt)
-none-failed true false t = absurd t
-none-failed false b t = absurd t
-
-neither-fails : (a b : Bool) → T a → T b → T (not (not a || not b))
-neither-fails true true s t = tt
-neither-fails true false s t = absurd t
-neither-fails false b s t = absurd s
 
 -- not too many: the last two sizes are kept
 pub room-kept : (w : Wallet) → T (not (tooMany w)) → (length (withPayments [] (heldPayments w)) ≤ mostPayments) × (length (withEntries [] (heldEntries w)) ≤ mostReferences)
@@ -188,20 +179,11 @@ sound-facts w t =
           q;
     }
 
--- the tests of a list, one by one
-abbrev Each : List Bool → Type 0
-Each [] = Unit {0}
-Each (b ∷ l) = T b × Each l
-
-each-every : (l : List Bool) → Each l → T (every l)
-each-every [] k = tt
-each-every (b ∷ l) k = and-both b (every l) (k .0) (each-every l (k .1))
-
 -- a wallet that fulfils every fact is sound
 pub facts-sound : (w : Wallet) → Sound w → T (sound w)
 unfolding sound withinSizes setsInOrder
 facts-sound w k =
-    each-every (clauses w) (
+    every-holds (clauses w) (
       and-both (leb (length (states w)) mostStates && not (tooMany w)) (all (λ e. leb (e .amount) largestAmount) (heldEntries w))
           (and-both (leb (length (states w)) mostStates) (not (tooMany w))
           (le→leb (length (states w)) mostStates (k .few-states))
