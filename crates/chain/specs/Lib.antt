@@ -1,0 +1,4 @@
+pub mod View
+pub mod Facts
+pub mod Checks
+pub mod ViewLaws
