@@ -1,0 +1,15 @@
+-- The entry of an unused place is zero in every field.
+use borrow.Author.Needs.{needs}
+use Rattle.flat.proofs.zero_entry.Statement.{statement}
+use Rattle.flat.proofs.zero_entry.Tie as tie
+
+-- src/lib.rt:80:20
+zero-reference-requires : tie.Need-zero-reference-requires
+zero-reference-requires c κs = search needs
+
+-- src/lib.rt:76:1
+returns : tie.Need-returns
+returns c = cc
+
+pub zero-entry-spec : {M : Type 1} → statement M
+zero-entry-spec = tie.close (tie.spec zero-reference-requires returns)
