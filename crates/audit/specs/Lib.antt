@@ -1,0 +1,4 @@
+pub mod Audit
+pub mod Checks
+pub mod AuditLaws
+pub mod Agreement
