@@ -1,0 +1,4 @@
+pub mod Worth
+pub mod Picked
+pub mod Summing
+pub mod WorthLaws
