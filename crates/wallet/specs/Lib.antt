@@ -1,0 +1,12 @@
+pub mod Contract
+pub mod Flags
+pub mod ContractLaws
+pub mod Demand3
+pub mod Opened
+pub mod PoolBooked
+pub mod Moved
+pub mod Sums
+pub mod Answers
+pub mod Found
+pub mod StepLaws
+pub mod StepsBooked
