@@ -1,0 +1,13 @@
+pub mod Answers
+pub mod Structs
+pub mod Numbers
+pub mod Fields
+pub mod Items
+pub mod Sequence
+pub mod Held
+pub mod Transactions
+pub mod Bodies
+pub mod Whole
+pub mod Rows
+pub mod Good
+pub mod Promises
