@@ -1,0 +1,10 @@
+pub mod Tables
+pub mod Present
+pub mod Makers
+pub mod Allowed
+pub mod Brought
+pub mod Amounts
+pub mod Value
+pub mod Singles
+pub mod LeastWord
+pub mod Bounds
