@@ -3,6 +3,7 @@
 use Prim.Native.Nat.{ℕ}
 use mathlib.Core.List.{List}
 use lib.ListN.{length, replicate}
+use Rattle.sets.specs.Fill.{filled}
 use Rattle.chain.specs.View.{zeroTransaction}
 use Rattle.rules.specs.Sizes.{mostOwn, mostTransactions}
 use Rattle.rules.specs.Chain as Chain
@@ -11,7 +12,6 @@ use Rattle.chain.specs.declared.Block.{Block}
 use Rattle.format.specs.Fields.{Reading, got, fault}
 use Rattle.format.specs.Bodies as Format
 use Rattle.format.specs.Bodies.{ownBody, blockBody, payBody, backBody, faultAt}
-use Rattle.sets.specs.Reading.{filled}
 use Rattle.feed.specs.Structs.{answered, valued, structOf, placesOf}
 use Rattle.feed.specs.declared.items.Answer.{Answer}
 use Rattle.feed.specs.declared.items.Answer.the-variants.{Read, Fault}

@@ -6,6 +6,7 @@ use Prim.Native.Nat.{ℕ, _-_, _≤_}
 use native.Mathlib.Omega.{arith}
 use lib.Dec.{T}
 use lib.ListN.{length, take, drop, length-map}
+use Rattle.sets.specs.Fill.{filled-length, filled-first}
 use Rattle.sets.specs.Sets.{all}
 use Rattle.sets.specs.Tests.{and-left, and-right, and-both}
 use Rattle.sets.specs.Walks.{all-replicate}
@@ -24,7 +25,7 @@ use Rattle.format.specs.Fields.{got, fault}
 use Rattle.format.specs.Bodies as Format
 use Rattle.format.specs.Bodies.{ownBody, blockBody, payBody, backBody, faultAt, ownKind, blockKind, payKind, readBody}
 use Rattle.format.specs.WrittenRead.{own-shaped, block-shaped, payment-shaped}
-use Rattle.sets.specs.Reading.{filled-length, filled-taken, filled-rest}
+use Rattle.sets.specs.Reading.{filled-behind}
 use Rattle.feed.specs.Structs.{structOf, placesOf, transactionRead}
 use Rattle.feed.specs.Bodies.{ownStruct, noOwn, blockOf, noBlock, ownReading, blockReading, payReading, ownRead, blockRead}
 use Rattle.feed.specs.Held.{reading-got}
@@ -38,8 +39,8 @@ use Rattle.feed.specs.declared.bodies.BlockRead.{BlockRead}
 
 pub struct-view : (t : Chain.Transaction) → viewTransaction (structOf t) ≡ t
 struct-view t =
-    let x = filled-taken mostInputs zeroReference (t .inputs) in
-    let y = filled-taken mostOutputs zeroOutput (t .outputs) in
+    let x = filled-first mostInputs zeroReference (t .inputs) in
+    let y = filled-first mostOutputs zeroOutput (t .outputs) in
     λ i. record { number = t .number; inputs = x i; outputs = y i }
 
 pub struct-laid-out : (t : Chain.Transaction) → length (t .inputs) ≤ mostInputs → length (t .outputs) ≤ mostOutputs → T (laidOut (structOf t))
@@ -50,10 +51,10 @@ struct-laid-out t g h =
       takesFit = g;
       makesFit = h;
       inputsEnd =
-          subst (λ (l : List Reference). T (all noReference l)) (sym (filled-rest mostInputs zeroReference (t .inputs)))
+          subst (λ (l : List Reference). T (all noReference l)) (sym (filled-behind mostInputs zeroReference (t .inputs)))
           (all-replicate noReference zeroReference (mostInputs - length (t .inputs)) (sameReference-refl zeroReference));
       outputsEnd =
-          subst (λ (l : List Output). T (all noOutput l)) (sym (filled-rest mostOutputs zeroOutput (t .outputs)))
+          subst (λ (l : List Output). T (all noOutput l)) (sym (filled-behind mostOutputs zeroOutput (t .outputs)))
           (all-replicate noOutput zeroOutput (mostOutputs - length (t .outputs)) (sameOutput-refl zeroOutput));
     })
 
@@ -81,7 +82,7 @@ views (t ∷ b) =
 block-taken : (b : Chain.Block) → take (length b) (placesOf b) ≡ map structOf b
 block-taken b =
     ap (λ (n : ℕ). take n (placesOf b)) (sym (length-map b structOf))
-    ∙ filled-taken mostTransactions zeroTransaction (map structOf b)
+    ∙ filled-first mostTransactions zeroTransaction (map structOf b)
 
 pub block-view : (b : Chain.Block) → viewBlock (blockOf b) ≡ b
 block-view b = ap (λ (l : List Transaction). map viewTransaction l) (block-taken b) ∙ views b
@@ -104,7 +105,7 @@ block-laid-out b s =
       eachLaidOut = subst (λ (l : List Transaction). T (all laidOut l)) (sym (block-taken b)) (each-laid-out b (f .eachShaped));
       blockEnds =
           subst (λ (l : List Transaction). T (all noTransaction l))
-          (sym (ap (λ (k : ℕ). drop k (placesOf b)) (sym n) ∙ filled-rest mostTransactions zeroTransaction (map structOf b)))
+          (sym (ap (λ (k : ℕ). drop k (placesOf b)) (sym n) ∙ filled-behind mostTransactions zeroTransaction (map structOf b)))
           (all-replicate noTransaction zeroTransaction (mostTransactions - length (map structOf b)) zero-no-transaction);
     })
 
@@ -134,7 +135,7 @@ pub record PaymentGood (body : Format.Body) (payment : Transaction) : Type 0 whe
 
 pub own-held : (kind : ℕ) (bytes own : List ℕ) → readBody kind bytes ≡ ownBody own → OwnGood (readBody kind bytes) (ownStruct own)
 own-held kind bytes own e =
-    let same = filled-taken mostOwn 0 own in
+    let same = filled-first mostOwn 0 own in
     record {
       held = e ∙ ap (λ (l : List ℕ). ownBody l) (sym same);
       shapedList = subst (λ (l : List ℕ). T (shapedOwn l)) (sym same) (own-shaped kind bytes own e);

@@ -5,8 +5,9 @@ use mathlib.Core.List.{List, map}
 use Prim.Native.Nat.{ℕ}
 use native.Mathlib.Omega.{arith}
 use lib.ListN.{replicate}
+use Rattle.sets.specs.Fill.{filled}
 use Rattle.format.specs.Fields.{Reading, got, fault}
-use Rattle.sets.specs.Reading.{filled, map-same}
+use Rattle.sets.specs.Reading.{map-same}
 use Rattle.feed.specs.Structs.{answered, valued}
 use Rattle.feed.specs.declared.items.Answer.{Answer}
 use Rattle.feed.specs.declared.items.Answer.the-variants.{Read, Fault}

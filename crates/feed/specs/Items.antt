@@ -7,9 +7,10 @@ use native.Mathlib.Omega.{arith}
 use lib.Dec.{eqb}
 use lib.ListN.{length, set, replicate, length-append, length-map}
 use borrow.Author.Tests.{ne-eqb}
+use Rattle.sets.specs.Fill.{filled, filled-none}
 use Rattle.format.specs.Fields.{Reading, got, fault, Reader, onward, items}
 use Rattle.format.specs.Loops.{onto, onto-none, items-end, items-more, items-fault}
-use Rattle.sets.specs.Reading.{filled, filled-none, filled-more, map-join}
+use Rattle.sets.specs.Reading.{filled-more, map-join}
 use Rattle.feed.specs.Answers.{lastOf}
 
 module _ {A : Type 0} where

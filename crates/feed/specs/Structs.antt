@@ -4,6 +4,7 @@ use Prim.Native.Nat.{ℕ}
 use mathlib.Core.List.{List, map}
 use mathlib.Core.Option.{none}
 use lib.ListN.{length, replicate}
+use Rattle.sets.specs.Fill.{filled}
 use Rattle.chain.specs.View.{zeroReference, zeroOutput, zeroTransaction}
 use Rattle.rules.specs.declared.Number.{Number}
 use Rattle.rules.specs.declared.Reference.{Reference}
@@ -14,7 +15,6 @@ use Rattle.chain.specs.declared.Transaction.{Transaction}
 use Rattle.chain.specs.declared.Block.{Block}
 use Rattle.format.specs.Fields.{Reading, got, fault, Reader, done, _>>=_, items}
 use Rattle.format.specs.Bodies.{readInput, readOutput}
-use Rattle.sets.specs.Reading.{filled}
 use Rattle.feed.specs.declared.items.Answer.{Answer}
 use Rattle.feed.specs.declared.items.Answer.the-variants.{Read, Fault}
 use Rattle.feed.specs.declared.items.InputRead.{InputRead}

@@ -7,6 +7,7 @@ use mathlib.Core.Option.{Option, none, some}
 use Prim.Native.Nat.{ℕ, zero, suc, _+_, _≤_, _<_}
 use lib.Dec.{eqb, leb}
 use lib.ListN.{set}
+use Rattle.sets.specs.Fill.{filled}
 use Rattle.chain.specs.View.{zeroReference, zeroOutput, zeroTransaction}
 use Rattle.rules.specs.declared.Number.{Number}
 use Rattle.rules.specs.declared.Reference.{Reference}
@@ -16,7 +17,6 @@ use Rattle.rules.specs.Chain as Chain
 use Rattle.chain.specs.declared.Transaction.{Transaction}
 use Rattle.format.specs.Fields.{got, fault, field, follows, items}
 use Rattle.format.specs.Bodies.{numberWidth, countWidth, numberOf, numberFollows, readInput, readOutput, readTransaction}
-use Rattle.sets.specs.Reading.{filled}
 use Rattle.feed.specs.Structs.{answered, valued, structOf, readLists, transactionRead}
 use Rattle.feed.specs.Answers.{lastOf, bearing}
 use Rattle.feed.specs.Items.{items-length, last-next, Progress, progress-step}

@@ -13,3 +13,4 @@ pub mod Placing
 pub mod Words
 pub mod Sums
 pub mod Marks
+pub mod Reading

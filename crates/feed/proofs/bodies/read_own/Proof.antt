@@ -5,7 +5,7 @@ use mathlib.Core.Option.{none}
 use lib.Dec.{leb, leb→le}
 use lib.ListN.{length, replicate}
 use borrow.Author.Needs.{needs}
-use Rattle.sets.specs.Reading.{filled}
+use Rattle.sets.specs.Fill.{filled}
 use Rattle.rules.specs.Sizes.{mostOwn}
 use Rattle.format.specs.Fields.{items}
 use Rattle.format.specs.Bodies.{countWidth, ownKind, readAddress, readBody}

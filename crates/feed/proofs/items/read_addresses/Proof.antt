@@ -7,7 +7,7 @@ use native.Mathlib.Omega.{arith}
 use lib.Dec.{eqb, ltb}
 use lib.ListN.{length, replicate}
 use borrow.Author.Needs.{needs}
-use Rattle.sets.specs.Reading.{filled}
+use Rattle.sets.specs.Fill.{filled}
 use Rattle.rules.specs.Sizes.{mostOwn}
 use Rattle.format.specs.Fields.{items, follows}
 use Rattle.format.specs.Bodies.{readAddress, addressWidth}

@@ -5,8 +5,8 @@ use mathlib.Core.Option.{none}
 use lib.Dec.{eqb}
 use lib.ListN.{length, replicate}
 use borrow.Author.Needs.{needs}
+use Rattle.sets.specs.Fill.{filled}
 use Rattle.chain.specs.View.{zeroReference}
-use Rattle.sets.specs.Reading.{filled}
 use Rattle.rules.specs.declared.Reference.{Reference}
 use Rattle.rules.specs.Sizes.{mostInputs}
 use Rattle.format.specs.Fields.{items}

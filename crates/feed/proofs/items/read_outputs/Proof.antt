@@ -5,8 +5,8 @@ use mathlib.Core.Option.{none}
 use lib.Dec.{eqb}
 use lib.ListN.{length, replicate}
 use borrow.Author.Needs.{needs}
+use Rattle.sets.specs.Fill.{filled}
 use Rattle.chain.specs.View.{zeroOutput}
-use Rattle.sets.specs.Reading.{filled}
 use Rattle.rules.specs.declared.Output.{Output}
 use Rattle.rules.specs.Sizes.{mostOutputs}
 use Rattle.format.specs.Fields.{items}

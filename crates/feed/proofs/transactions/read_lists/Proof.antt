@@ -3,8 +3,8 @@ use mathlib.Core.Path.{ap, _∙_}
 use mathlib.Core.Option.{none}
 use lib.ListN.{replicate}
 use borrow.Author.Needs.{needs}
+use Rattle.sets.specs.Fill.{filled}
 use Rattle.chain.specs.View.{zeroReference, zeroOutput, zeroTransaction}
-use Rattle.sets.specs.Reading.{filled}
 use Rattle.rules.specs.Sizes.{mostInputs, mostOutputs}
 use Rattle.format.specs.Fields.{items}
 use Rattle.format.specs.Bodies.{readInput, readOutput}
