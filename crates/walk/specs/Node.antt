@@ -14,7 +14,8 @@ use Rattle.sets.specs.Sets.{total}
 use Rattle.sets.specs.Laws.{total-append}
 use Rattle.sets.specs.Words.{within, picked, picked-bit, picked-total, ones-length}
 use Rattle.sets.specs.Marks.{block-lower, block-upper, block-least, block-largest, picked-block}
-use Rattle.tables.specs.Tables.{Row, Tables, takesOf, addsOf}
+use Rattle.tables.specs.declared.Row.{Row}
+use Rattle.tables.specs.Tables.{Tables, takesOf, addsOf}
 use Rattle.walk.specs.Walk.{emptyRow, rowAt, lossOf, potOf}
 
 -- the rows that a word chooses among those from place k on
