@@ -19,6 +19,7 @@ use Rattle.wallet.specs.declared.Step.{Step}
 use Rattle.wallet.specs.declared.Amount.{Amount}
 use Rattle.wallet.specs.declared.Listed.{Listed}
 use Rattle.wallet.specs.declared.Pending.{Pending}
+use Rattle.wallet.specs.Told.{toldList}
 
 -- the rules' wallet that a wallet struct holds, and whether the struct is sound
 abbrev pub viewed : Wallet → States.Wallet
@@ -50,7 +51,7 @@ abbrev pub asked : Wallet → ℕ → Amount
 asked w n = cond (isSound w) (record { answer = 0; amount = n }) (record { answer = 9; amount = 0 })
 
 abbrev pub listed : Wallet → List Entry → Listed
-listed w l = cond (isSound w) (record { answer = 0; list = madeOf l }) (record { answer = 9; list = madeOf [] })
+listed w l = toldList (isSound w) (madeOf l)
 
 abbrev pub pendingListed : Wallet → List Transaction → Pending
 pendingListed w l = cond (isSound w) (record { answer = 0; list = blockOf l }) (record { answer = 9; list = blockOf [] })

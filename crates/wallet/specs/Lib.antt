@@ -1,5 +1,6 @@
 pub mod Contract
 pub mod Flags
+pub mod Told
 pub mod ContractLaws
 pub mod Demand3
 pub mod Opened

@@ -15,6 +15,7 @@ use pool::Pool;
 
 mod answers;
 mod bookings;
+mod queries;
 mod tests;
 
 // A wallet: see the pool for how it is laid out.
@@ -203,16 +204,8 @@ impl Wallet {
     {
         let pool = self.pool;
         let sound = audit::good_pool(pool);
-        if !sound {
-            return Listed {
-                answer: 9,
-                list: bookings::nothing(),
-            };
-        }
-        Listed {
-            answer: 0,
-            list: balance::utxo_of(pool),
-        }
+        let utxo = balance::utxo_of(pool);
+        queries::told_list(sound, utxo)
     }
 
     pub fn expected_list(self) -> Listed
@@ -220,16 +213,8 @@ impl Wallet {
     {
         let pool = self.pool;
         let sound = audit::good_pool(pool);
-        if !sound {
-            return Listed {
-                answer: 9,
-                list: bookings::nothing(),
-            };
-        }
-        Listed {
-            answer: 0,
-            list: balance::expected_of(pool),
-        }
+        let expected = balance::expected_of(pool);
+        queries::told_list(sound, expected)
     }
 
     pub fn available_list(self) -> Listed
@@ -237,16 +222,8 @@ impl Wallet {
     {
         let pool = self.pool;
         let sound = audit::good_pool(pool);
-        if !sound {
-            return Listed {
-                answer: 9,
-                list: bookings::nothing(),
-            };
-        }
-        Listed {
-            answer: 0,
-            list: balance::available_of(pool),
-        }
+        let free = balance::available_of(pool);
+        queries::told_list(sound, free)
     }
 
     pub fn pending_list(self) -> Pending

@@ -1,6 +1,5 @@
 -- The present expected outputs, where the wallet is sound.
-use Rattle.pool.specs.Good.{good}
-use Rattle.wallet.specs.Flags.{picks-first, picks-second}
+use Rattle.wallet.specs.Told.{told-one}
 use borrow.Author.Needs.{needs}
 use Rattle.wallet.proofs.Wallet.expected_list.Statement.{statement}
 use Rattle.wallet.proofs.Wallet.expected_list.Tie as tie
@@ -8,22 +7,16 @@ use Rattle.wallet.proofs.Wallet.expected_list.Tie as tie
 good-pool-requires : tie.Need-good-pool-requires
 good-pool-requires c κs = search needs
 
-nothing-requires : tie.Need-nothing-requires
-nothing-requires c κs = search needs
-
-returns : tie.Need-returns
-returns c =
-    let list = c .nothing .ensures in
-    picks-second (good (c .before .before .before .before .args .self .pool)) _ _ _ _ (c .before .before .good-pool .ensures) (c .before .if1 .taken) (λ i. record { answer = 9; list = list i })
-
 expected-of-requires : tie.Need-expected-of-requires
 expected-of-requires c κs = search needs
 
-returns-2 : tie.Need-returns-2
-returns-2 c =
-    let list = c .expected-of .ensures in
-    picks-first (good (c .before .before .before .before .args .self .pool)) _ _ _ _ (c .before .before .good-pool .ensures) (c .before .if1 .left) (λ i. record { answer = 0; list = list i })
+told-list-requires : tie.Need-told-list-requires
+told-list-requires c κs = search needs
+
+returns : tie.Need-returns
+returns c =
+    told-one (c .told-list .ensures) (c .before .before .good-pool .ensures) (c .before .expected-of .ensures)
 
 pub expected-list-spec : {M : Type 1} → statement M
 expected-list-spec =
-    tie.close (tie.spec good-pool-requires nothing-requires returns expected-of-requires returns-2)
+    tie.close (tie.spec good-pool-requires expected-of-requires told-list-requires returns)
