@@ -1,5 +1,5 @@
 -- Laws of tests: a Boolean that holds, as a fact, taken apart and put together.
-use mathlib.Core.Path.{_≡_, refl, subst}
+use mathlib.Core.Path.{_≡_, refl, sym, subst, _∙_}
 use mathlib.Core.Logic.{_⊎_, inl, inr}
 use mathlib.Core.Bool.{Bool, true, false, not, cond, _&&_, _||_}
 use mathlib.Core.List.{List, [], _∷_}
@@ -97,3 +97,7 @@ pub every-at : (l : List Bool) (i : ℕ) → T (every l) → T (getD l i true)
 every-at [] i t = tt
 every-at (b ∷ l) zero t = and-left b (every l) t
 every-at (b ∷ l) (suc i) t = every-at l i (and-right b (every l) t)
+
+-- What a contract of one equation lets through: one answer.
+pub one-answer : {A : Type 0} {r q answer : A} → r ≡ answer → q ≡ answer → r ≡ q
+one-answer e f = e ∙ sym f
