@@ -3,6 +3,7 @@
 
 mod chain;
 mod chance;
+mod compare;
 mod damage;
 mod draft;
 mod events;
@@ -13,14 +14,17 @@ mod minimum;
 mod scenes;
 mod selftest;
 mod sheet;
+mod tally;
 mod traffic;
 mod wallet;
 
 use std::io::{self, Read, Write};
 use std::path::Path;
 use std::process::ExitCode;
+use std::time::Instant;
 
-const USAGE: &str = "usage: second sheet | inside | generate SEED COUNT DIR | selftest";
+const USAGE: &str = "usage: second sheet | inside | time N | selftest |
+    generate SEED COUNT DIR | compare SHEET INSIDE COUNT SEED";
 
 fn main() -> ExitCode {
     let arguments: Vec<String> = std::env::args().skip(1).collect();
@@ -42,9 +46,27 @@ fn obey(words: &[&str]) -> Result<ExitCode, String> {
             generate::write(number(seed)?, number(count)? as usize, Path::new(folder))?;
             Ok(ExitCode::SUCCESS)
         }
+        ["compare", sheet, inside, count, seed] => {
+            Ok(status(compare::run(sheet, inside, number(count)? as usize, number(seed)?)))
+        }
+        ["time", times] => print(&format!("{}\n", time(number(times)?)?)),
         ["selftest"] => Ok(status(selftest::run())),
         _ => Err(USAGE.to_string()),
     }
+}
+
+/// Nanoseconds for one sheet. The sheets' lengths are added up and judged, so that no sheet can be
+/// left away.
+fn time(times: u64) -> Result<u128, String> {
+    let feed = standard_input()?;
+    let length = sheet::sheet(&feed).len() as u64;
+    let start = Instant::now();
+    let written: u64 = (0..times).map(|_| sheet::sheet(&feed).len() as u64).sum();
+    let spent = start.elapsed().as_nanos();
+    if times == 0 || written != times * length {
+        return Err("nothing to time".to_string());
+    }
+    Ok(spent / u128::from(times))
 }
 
 fn number(word: &str) -> Result<u64, String> {
