@@ -5,7 +5,7 @@ use crate::chance::Chance;
 use crate::damage;
 use crate::draft::*;
 use crate::feed::{ROW_LIMIT, ROW_SIZE};
-use crate::scenes::{mixed_scene, THEMES};
+use crate::scenes::{mixed_scene, Scene, THEMES};
 use crate::traffic::{shaped, Traffic};
 use std::path::Path;
 
@@ -40,19 +40,20 @@ pub fn feed(seed: u64, index: usize) -> Vec<u8> {
 
 fn draft(chance: &mut Chance, turn: usize, plan: &Plan) -> Draft {
     let short = if chance.one_in(3) { chance.between(30, 60) } else { chance.between(8, 30) };
+    let (theme_rows, theme) = THEMES[turn % THEMES.len()];
     let rows = match plan {
-        Plan::Short => short,
+        Plan::Short => short.max(theme_rows),
         _ => ROW_LIMIT,
     };
     let mut traffic = Traffic::new(chance, rows);
     match plan {
-        Plan::Short | Plan::Long => play(&mut traffic, turn, 0),
+        Plan::Short | Plan::Long => play(&mut traffic, theme, 0),
         Plan::NearlyFull => {
-            play(&mut traffic, turn, ROW_LIMIT - ROWS_BEFORE_FILLING);
+            play(&mut traffic, theme, ROW_LIMIT - ROWS_BEFORE_FILLING);
             fill(&mut traffic);
         }
         Plan::Full => {
-            play(&mut traffic, turn, ROW_LIMIT - ROWS_BEFORE_FILLING);
+            play(&mut traffic, theme, ROW_LIMIT - ROWS_BEFORE_FILLING);
             fill(&mut traffic);
             fill_exactly(&mut traffic);
         }
@@ -61,11 +62,11 @@ fn draft(chance: &mut Chance, turn: usize, plan: &Plan) -> Draft {
 }
 
 /// The theme whose turn it is, then a mixture, until only so many rows are left.
-fn play(traffic: &mut Traffic, turn: usize, rows_left: usize) {
+fn play(traffic: &mut Traffic, theme: Scene, rows_left: usize) {
     for _ in 0..traffic.chance.below(4) {
         mixed_scene(traffic);
     }
-    THEMES[turn % THEMES.len()](traffic);
+    theme(traffic);
     // Scenes that find nothing to do add no row, so their number has an end of its own.
     for _ in 0..4 * ROW_LIMIT {
         if traffic.rows_left() <= rows_left {

@@ -6,26 +6,28 @@ use crate::traffic::{shaped, Traffic};
 
 pub type Scene = fn(&mut Traffic);
 
-/// Scenes that each feed gets one of, in turn, so that no situation is left to chance.
-pub const THEMES: [Scene; 14] = [
-    shared_input,
-    chain_of_payments,
-    sixteen_payments,
-    full_references,
-    made_again,
-    states_let_go,
-    amounts_at_limit,
-    fork,
-    expected_made,
-    shared_input_twice,
-    driven_out_and_back,
-    made_and_spent,
-    chain_in_the_air,
-    crowded_rollbacks,
+/// Scenes that each feed gets one of, in turn, so that no situation is left to chance; with the
+/// rows that the feed has at least.
+pub const THEMES: [(usize, Scene); 15] = [
+    (12, shared_input),
+    (16, chain_of_payments),
+    (40, sixteen_payments),
+    (32, full_references),
+    (12, made_again),
+    (20, states_let_go),
+    (8, amounts_at_limit),
+    (12, fork),
+    (12, expected_made),
+    (14, shared_input_twice),
+    (14, driven_out_and_back),
+    (8, made_and_spent),
+    (16, chain_in_the_air),
+    (36, crowded_rollbacks),
+    (32, oldest_of_eight),
 ];
 
 /// Scenes that fill a feed, with their weights.
-const MIX: [(usize, Scene); 22] = [
+const MIX: [(usize, Scene); 23] = [
     (14, income),
     (18, plain_payment),
     (12, confirm),
@@ -34,7 +36,8 @@ const MIX: [(usize, Scene); 22] = [
     (3, empty_block),
     (8, some_rollbacks),
     (4, fork),
-    (3, expected_made),
+    (4, expected_made),
+    (1, expected_spent),
     (3, made_again),
     (3, shared_input),
     (3, chain_of_payments),
@@ -191,8 +194,25 @@ fn expected_made(traffic: &mut Traffic) {
     let same = expected.iter().filter(|(reference, _)| reference.number == number);
     let made = same.map(|(reference, coin)| Output { index: reference.index, coin: *coin });
     let outputs: Vec<Output> = made.take(OUTPUT_LIMIT).collect();
+    let first = Reference { number, index: outputs[0].index };
     let inputs = vec![traffic.foreign_input()];
-    traffic.block(vec![shaped(number, inputs, outputs)]);
+    let mut block = vec![shaped(number, inputs, outputs)];
+    if traffic.chance.one_in(4) {
+        let coins = traffic.coins(1);
+        block.push(traffic.chain_transaction(&[first], &coins));
+    }
+    traffic.block(block);
+}
+
+/// A block spends an expected reference without making it.
+fn expected_spent(traffic: &mut Traffic) {
+    let expected: Vec<Reference> = traffic.wallet.present().expected.keys().copied().collect();
+    let spent = traffic.chance.some(&expected, 1);
+    if !spent.is_empty() {
+        let coins = traffic.coins(1);
+        let foreign = traffic.chain_transaction(&spent, &coins);
+        traffic.block(vec![foreign]);
+    }
 }
 
 /// One block spends an entry, the next makes it again; two rollbacks bring it into expected and
@@ -386,6 +406,40 @@ fn states_let_go(traffic: &mut Traffic) {
             _ => empty_block(traffic),
         }
     }
+}
+
+/// A payment and entries come to stand in the oldest of eight states alone: 2 and 6 still see
+/// them, 7 does not.
+fn oldest_of_eight(traffic: &mut Traffic) {
+    let room = traffic.entry_room();
+    if traffic.rows_left() < 20 || room < 10 || !many_entries(traffic, room) {
+        return;
+    }
+    let available = traffic.available();
+    let leaving = traffic.chance.some(&available, 9);
+    let coin = traffic.wallet.present().utxo[&leaving[1]];
+    let payment = shaped(traffic.fresh_number(), leaving[..1].to_vec(), Vec::new());
+    traffic.pay(&payment);
+    let spender = shaped(traffic.fresh_number(), leaving[1..].to_vec(), Vec::new());
+    traffic.block(vec![payment.clone(), spender]);
+    (0..6).for_each(|_| empty_block(traffic));
+
+    let other_coin = Coin { address: coin.address, amount: coin.amount / 2 + 1 };
+    let outputs = vec![Output { index: leaving[1].index, coin: other_coin }];
+    let inputs = vec![traffic.foreign_input()];
+    let other_maker = shaped(leaving[1].number, inputs.clone(), outputs);
+    let other_payment = shaped(payment.number, inputs, Vec::new());
+    let spent = traffic.some_available(1);
+    let same_number = Transaction { number: payment.number, ..traffic.payment(&spent) };
+    traffic.pay(&same_number);
+    traffic.block(vec![other_payment.clone()]);
+    traffic.block(vec![other_maker.clone()]);
+    let room = traffic.entry_room();
+    many_entries(traffic, room + 1);
+    many_entries(traffic, room - 1);
+    // The oldest is gone, and with it the refusals.
+    traffic.pay(&same_number);
+    traffic.block(vec![other_maker]);
 }
 
 fn amounts_at_limit(traffic: &mut Traffic) {

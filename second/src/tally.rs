@@ -10,7 +10,7 @@ const ANSWERS: usize = 9;
 const KINDS: [Kind; 4] = [Kind::Own, Kind::Block, Kind::Payment, Kind::Rollback];
 
 /// In the order in which they are printed; all of them have to occur.
-const SITUATIONS: [&str; 34] = [
+const SITUATIONS: [&str; 39] = [
     "well formed feed",
     "refused feed",
     "body fault",
@@ -28,8 +28,13 @@ const SITUATIONS: [&str; 34] = [
     "chosen payment's output that is expected too",
     "reference made again",
     "expected reference made",
+    "expected reference made and spent in one block",
+    "expected reference spent, not made",
     "expected reference in the lower UTxO at a rollback",
     "oldest of eight let go",
+    "2 by the oldest of eight alone",
+    "6 by the oldest of eight alone",
+    "room only because the oldest of eight goes",
     "sixteen payments",
     "128 references",
     "amount at the limit",
@@ -55,7 +60,6 @@ pub struct Tally {
 
 impl Tally {
     fn met_if(&mut self, situation: &'static str, met: bool) {
-        debug_assert!(SITUATIONS.contains(&situation));
         if met {
             *self.situations.entry(situation).or_insert(0) += 1;
         }
@@ -81,6 +85,7 @@ impl Tally {
         if let Ok(Body::Block(block)) = &event.body {
             self.contradictions(event.answer, block, before);
         }
+        self.oldest(event, before);
         if (event.kind, event.answer) == (Kind::Rollback, ACCEPTED) {
             self.rollback(before, after);
         }
@@ -96,30 +101,57 @@ impl Tally {
     fn block(&mut self, block: &[Transaction], before: &Wallet, after: &Wallet) {
         let spent: BTreeSet<Reference> =
             block.iter().flat_map(|transaction| transaction.inputs.iter().copied()).collect();
-        let own = |made: &(Reference, Coin)| after.own.contains(&made.1.address);
-        let made: BTreeSet<Reference> = block
-            .iter()
-            .flat_map(Transaction::made)
-            .filter(own)
-            .map(|(reference, _)| reference)
-            .collect();
+        let own_made = block.iter().flat_map(Transaction::made);
+        let own_made = own_made.filter(|(_, coin)| after.own.contains(&coin.address));
+        let made: BTreeSet<Reference> = own_made.map(|(reference, _)| reference).collect();
         self.met_if("empty block", block.is_empty());
-        self.met_if("coin made and spent in one block", made.intersection(&spent).next().is_some());
+        self.met_if("coin made and spent in one block", !made.is_disjoint(&spent));
         let backwards = block.iter().any(|transaction| {
             let mut inputs = transaction.inputs.iter();
             inputs.any(|input| made.contains(input) && input.number >= transaction.number)
         });
         self.met_if("transaction that spends its own or a higher number's output", backwards);
+        let stood = |new: &Reference| before.states.iter().any(|old| old.utxo.contains_key(new));
+        self.met_if("reference made again", made.iter().any(stood));
+        for expected in before.present().expected.keys() {
+            let (made, spent) = (made.contains(expected), spent.contains(expected));
+            self.met_if("expected reference made", made);
+            self.met_if("expected reference made and spent in one block", made && spent);
+            self.met_if("expected reference spent, not made", spent && !made);
+        }
+        self.payments_left(block, before, after);
+        self.met_if("oldest of eight let go", before.states.len() == HELD_LIMIT);
+        let with_oldest = before.states.iter().chain(after.states.last());
+        let room = references(with_oldest).len() > ENTRY_LIMIT;
+        self.met_if("room only because the oldest of eight goes", room);
+    }
+
+    fn payments_left(&mut self, block: &[Transaction], before: &Wallet, after: &Wallet) {
         let left = || before.present().pending.difference(&after.present().pending);
         let in_block = |old: &Transaction| block.iter().any(|new| new.number == old.number);
         self.met_if("pending payment confirmed", left().any(|payment| in_block(payment)));
         let driven_out = left().any(|payment| !in_block(payment));
         self.met_if("pending payment driven out by a foreign spend", driven_out);
-        let stood = |new: &Reference| before.states.iter().any(|old| old.utxo.contains_key(new));
-        self.met_if("reference made again", made.iter().any(stood));
-        let expected = &before.present().expected;
-        self.met_if("expected reference made", made.iter().any(|new| expected.contains_key(new)));
-        self.met_if("oldest of eight let go", before.states.len() == HELD_LIMIT);
+    }
+
+    /// Refusals that would not have been given had the oldest of eight states gone before.
+    fn oldest(&mut self, event: &Event, before: &Wallet) {
+        if before.states.len() < HELD_LIMIT {
+            return;
+        }
+        let mut later = before.clone();
+        later.states.remove(0);
+        match (&event.body, event.answer) {
+            (Ok(Body::Payment(payment)), NUMBER_TAKEN) => {
+                let alone = later.pay(payment).answer != NUMBER_TAKEN;
+                self.met_if("2 by the oldest of eight alone", alone);
+            }
+            (Ok(Body::Block(block)), CONTRADICTS) => {
+                let alone = later.block(block).answer != CONTRADICTS;
+                self.met_if("6 by the oldest of eight alone", alone);
+            }
+            _ => {}
+        }
     }
 
     fn contradictions(&mut self, answer: Answer, block: &[Transaction], before: &Wallet) {
