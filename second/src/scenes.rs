@@ -417,6 +417,9 @@ fn oldest_of_eight(traffic: &mut Traffic) {
     }
     let available = traffic.available();
     let leaving = traffic.chance.some(&available, 9);
+    if leaving.len() < 9 {
+        return;
+    }
     let coin = traffic.wallet.present().utxo[&leaving[1]];
     let payment = shaped(traffic.fresh_number(), leaving[..1].to_vec(), Vec::new());
     traffic.pay(&payment);
@@ -424,8 +427,8 @@ fn oldest_of_eight(traffic: &mut Traffic) {
     traffic.block(vec![payment.clone(), spender]);
     (0..6).for_each(|_| empty_block(traffic));
 
-    let other_coin = Coin { address: coin.address, amount: coin.amount / 2 + 1 };
-    let outputs = vec![Output { index: leaving[1].index, coin: other_coin }];
+    let coin = Coin { amount: other_amount(coin.amount), ..coin };
+    let outputs = vec![Output { index: leaving[1].index, coin }];
     let inputs = vec![traffic.foreign_input()];
     let other_maker = shaped(leaving[1].number, inputs.clone(), outputs);
     let other_payment = shaped(payment.number, inputs, Vec::new());
@@ -436,7 +439,7 @@ fn oldest_of_eight(traffic: &mut Traffic) {
     traffic.block(vec![other_maker.clone()]);
     let room = traffic.entry_room();
     many_entries(traffic, room + 1);
-    many_entries(traffic, room - 1);
+    many_entries(traffic, room.saturating_sub(1));
     // The oldest is gone, and with it the refusals.
     traffic.pay(&same_number);
     traffic.block(vec![other_maker]);
@@ -535,6 +538,14 @@ fn stands_already(traffic: &mut Traffic) {
     }
 }
 
+fn other_amount(amount: u64) -> u64 {
+    if amount == 0 {
+        1
+    } else {
+        amount - 1
+    }
+}
+
 /// A transaction that makes a held reference with another address or amount.
 fn contradicting(traffic: &mut Traffic) -> Option<Transaction> {
     let gone = traffic.gone_entries();
@@ -542,7 +553,7 @@ fn contradicting(traffic: &mut Traffic) -> Option<Transaction> {
     match traffic.chance.below(3) {
         0 => coin.address = traffic.foreign_address(),
         1 => coin.address ^= 1,
-        _ => coin.amount = if coin.amount == 0 { 1 } else { coin.amount - 1 },
+        _ => coin.amount = other_amount(coin.amount),
     }
     let inputs = vec![traffic.foreign_input()];
     Some(shaped(reference.number, inputs, vec![Output { index: reference.index, coin }]))

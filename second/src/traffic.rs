@@ -57,7 +57,10 @@ impl<'a> Traffic<'a> {
     }
 
     pub fn pay(&mut self, payment: &Transaction) -> bool {
-        self.push(PAYMENT, payment_body(payment)) && self.wallet.pay(payment).answer == ACCEPTED
+        // A scene that found nothing to spend stays out of the feed: faults are put in elsewhere.
+        !payment.inputs.is_empty()
+            && self.push(PAYMENT, payment_body(payment))
+            && self.wallet.pay(payment).answer == ACCEPTED
     }
 
     pub fn back(&mut self) -> bool {
