@@ -94,7 +94,7 @@ fn own_texts(feed: &[u8], tally: &mut Tally) -> (String, String) {
     let mut inside = String::new();
     let mut before: Option<Wallet> = None;
     let mut rows = 0;
-    let opened = events::run(feed, |event, wallet| {
+    let last = events::run(feed, |event, wallet| {
         sheet::write_line(&mut sheet, event);
         inside::write_event(&mut inside, event, wallet);
         tally.event(event, before.as_ref().unwrap_or(wallet), wallet);
@@ -102,12 +102,12 @@ fn own_texts(feed: &[u8], tally: &mut Tally) -> (String, String) {
         rows = event.row;
     });
     tally.feed(feed, rows);
-    match before {
-        Some(last) if opened => {
+    match last {
+        Some(last) => {
             inside::write_damages(&mut inside, &last);
             (sheet, inside)
         }
-        _ => (events::REFUSED.to_string(), events::REFUSED.to_string()),
+        None => (events::REFUSED.to_string(), events::REFUSED.to_string()),
     }
 }
 

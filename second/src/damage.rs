@@ -46,14 +46,14 @@ const FEED_FAULTS: [FeedFault; 17] = [
     noise,
 ];
 
-/// Two of three damaged feeds have faults in bodies only; the kinds of faults take turns.
+/// Two of three damaged feeds have faults in bodies only; the faults of whole feeds take turns.
 pub fn damaged(chance: &mut Chance, draft: &Draft, turn: usize) -> Vec<u8> {
     if turn % 3 == 2 {
         return FEED_FAULTS[turn / 3 % FEED_FAULTS.len()](chance, draft);
     }
     let mut draft = draft.clone();
-    for extra in 0..chance.between(1, 4) {
-        let fault = BODY_FAULTS[(turn + extra * 5) % BODY_FAULTS.len()];
+    for _ in 0..chance.between(1, 4) {
+        let fault = BODY_FAULTS[chance.below(BODY_FAULTS.len())];
         if let Some(at) = later_row(chance, &draft) {
             fault(chance, &mut draft.rows[at]);
         }

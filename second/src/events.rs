@@ -19,12 +19,10 @@ pub struct Event {
 /// What a refused feed gives instead of its events.
 pub const REFUSED: &str = "feed refused 1\n";
 
-/// Hands each event and the wallet after it to the visitor; false when the feed is refused.
-pub fn run(bytes: &[u8], mut visit: impl FnMut(&Event, &Wallet)) -> bool {
-    let feed = match feed::open(bytes) {
-        Some(feed) => feed,
-        None => return false,
-    };
+/// Hands each event and the wallet after it to the visitor. Gives back the last wallet, or nothing
+/// when the feed is refused.
+pub fn run(bytes: &[u8], mut visit: impl FnMut(&Event, &Wallet)) -> Option<Wallet> {
+    let feed = feed::open(bytes)?;
     let mut wallet = Wallet::open(&feed.own);
     for (row, entry) in (1..).zip(&feed.rows) {
         let body = feed::read_body(entry.kind, entry.body);
@@ -42,7 +40,7 @@ pub fn run(bytes: &[u8], mut visit: impl FnMut(&Event, &Wallet)) -> bool {
         };
         visit(&event, &wallet);
     }
-    true
+    Some(wallet)
 }
 
 fn take_step(wallet: &mut Wallet, body: &Result<Body, Place>) -> Step {

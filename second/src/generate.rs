@@ -100,14 +100,14 @@ fn fill(traffic: &mut Traffic) {
     }
 }
 
-/// Smaller payments, then one last body that ends with the limit's last byte; where no payment has
-/// just that length, bytes are left over in it.
+/// Smaller blocks, then a payment that ends with the limit's last byte; where no payment has just
+/// that length, bytes are left over in it.
 fn fill_exactly(traffic: &mut Traffic) {
     while traffic.bytes_left() >= 2 * (ROW_SIZE + 202) && traffic.rows_left() > 1 {
         let block = vec![filler(traffic, 8, 8)];
         traffic.block(block);
     }
-    let length = traffic.bytes_left() - ROW_SIZE;
+    let length = traffic.bytes_left().saturating_sub(ROW_SIZE);
     let mut body = Vec::new();
     for inputs in 1..=INPUT_LIMIT {
         for outputs in 0..=OUTPUT_LIMIT {

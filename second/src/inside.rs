@@ -8,21 +8,17 @@ use std::fmt::Write;
 
 pub fn inside(feed: &[u8]) -> String {
     let mut text = String::new();
-    let mut last = None;
-    let opened = events::run(feed, |event, wallet| {
-        write_event(&mut text, event, wallet);
-        last = Some(wallet.clone());
-    });
-    if let Some(wallet) = last {
-        write_damages(&mut text, &wallet);
-    }
-    if opened {
-        text
-    } else {
-        events::REFUSED.to_string()
+    match events::run(feed, |event, wallet| write_event(&mut text, event, wallet)) {
+        Some(last) => {
+            write_damages(&mut text, &last);
+            text
+        }
+        None => events::REFUSED.to_string(),
     }
 }
 
+/// Five lines. The first has row, kind, the reading of the body (0, or 1 for a fault), the fault's
+/// place, the answer, the minimum's count of payments and the number of held states.
 /// Writing into a string never fails.
 pub fn write_event(text: &mut String, event: &Event, wallet: &Wallet) {
     let present = wallet.present();

@@ -7,10 +7,9 @@ pub const HEAD: &str = "event kind answer available total minimum moved\n";
 
 pub fn sheet(feed: &[u8]) -> String {
     let mut text = String::from(HEAD);
-    if events::run(feed, |event, _| write_line(&mut text, event)) {
-        text
-    } else {
-        events::REFUSED.to_string()
+    match events::run(feed, |event, _| write_line(&mut text, event)) {
+        Some(_) => text,
+        None => events::REFUSED.to_string(),
     }
 }
 
