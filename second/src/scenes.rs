@@ -237,7 +237,7 @@ fn made_again(traffic: &mut Traffic) {
 
 /// The paper's way to two pending payments with a shared input.
 fn shared_input(traffic: &mut Traffic) {
-    if !stocked(traffic, 2) {
+    if !stocked(traffic, 3) {
         return;
     }
     let available = traffic.available();
@@ -248,7 +248,12 @@ fn shared_input(traffic: &mut Traffic) {
     let coins = traffic.coins(count);
     let foreign = traffic.chain_transaction(&both[..1], &coins);
     traffic.block(vec![foreign]);
-    let second = traffic.payment(&both[1..]);
+    // With an input of its own, the second payment would lower the minimum beside the first.
+    let mut taken = both[1..].to_vec();
+    if !traffic.chance.one_in(3) {
+        taken.extend(traffic.some_available(1).iter().filter(|entry| **entry != both[1]));
+    }
+    let second = traffic.payment(&taken);
     traffic.pay(&second);
     traffic.back();
 }
