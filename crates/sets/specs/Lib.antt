@@ -14,3 +14,4 @@ pub mod Words
 pub mod Sums
 pub mod Marks
 pub mod Reading
+pub mod Lowest

@@ -1,0 +1,20 @@
+-- The mark is the lowest digit.
+use Rattle.minimum.specs.Bringing.{bit-room, bit-told}
+use borrow.Author.Needs.{needs}
+use Rattle.minimum.proofs.brings.pushed.Statement.{statement}
+use Rattle.minimum.proofs.brings.pushed.Tie as tie
+
+mul-twice : tie.Need-mul-twice
+mul-twice c = search needs
+
+cast-low : tie.Need-cast-low
+cast-low c = search needs
+
+add-result : tie.Need-add-result
+add-result c = bit-room _ (c .args .mark) (search needs)
+
+returns : tie.Need-returns
+returns c = bit-told _ (c .args .mark)
+
+pub pushed-spec : {M : Type 1} → statement M
+pushed-spec = tie.close (tie.spec mul-twice cast-low add-result returns)
