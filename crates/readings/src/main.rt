@@ -1,0 +1,21 @@
+// The paper's readings through the wallet's steps and queries, one line a check: what was asked, what came, and `ok` or
+// `WRONG`.
+mod build;
+mod case_f;
+mod checks;
+mod lines;
+mod papers;
+mod probe;
+mod refusals;
+mod same;
+mod sizes;
+mod spoil;
+mod unsound;
+
+fn main() {
+    papers::run();
+    case_f::run();
+    sizes::run();
+    refusals::run();
+    unsound::run();
+}
