@@ -1,0 +1,13 @@
+pub mod Sheet
+pub mod Readings
+pub mod Placed
+pub mod Signed
+pub mod Decimals
+pub mod Text
+pub mod Events
+pub mod Balanced
+pub mod Rows
+pub mod Along
+pub mod Lengths
+pub mod Contract
+pub mod Whole
