@@ -4,7 +4,7 @@ use mathlib.Core.Path.{_≡_, refl, sym, ap, subst, _∙_}
 use mathlib.Core.Bool.{true, false}
 use mathlib.Core.List.{List, [], _∷_, _++_, List·Memᴰ, List·Memᴰ·head, Memᴰ·append-right}
 use Prim.Native.Nat.{ℕ, suc, _+_, _*_, _-_, _^_, _≤_, _<_}
-use native.Mathlib.Nat.{pow-suc, zero-mul}
+use native.Mathlib.Nat.{pow-suc, zero-mul, one-le-pow}
 use native.Mathlib.Omega.{arith}
 use lib.Count.{ones}
 use lib.Dec.{T}
@@ -13,7 +13,7 @@ use lib.Seq.{drop-cons}
 use Rattle.sets.specs.Sets.{total}
 use Rattle.sets.specs.Laws.{total-append}
 use Rattle.sets.specs.Words.{within, picked, picked-bit, picked-total, ones-length}
-use Rattle.sets.specs.Marks.{block-lower, block-upper, block-least, block-largest, picked-block}
+use Rattle.sets.specs.Marks.{picked-none, block-lower, block-upper, block-least, block-largest, picked-block}
 use Rattle.tables.specs.declared.Row.{Row}
 use Rattle.tables.specs.Tables.{Tables, takesOf, addsOf}
 use Rattle.walk.specs.Walk.{emptyRow, rowAt, lossOf, potOf}
@@ -144,6 +144,20 @@ module _ {t : Tables} {k m gain cost count : ℕ} (n : Node t k m gain cost coun
   node-largest =
       subst (λ (y : ℕ). T (within x (y + (2 ^ k - 1)))) (sym (n .word))
       (subst (λ (y : ℕ). T (within y (n .decided * 2 ^ k + (2 ^ k - 1)))) (sym node-whole) (block-largest k (n .decided) (x - m) (omega arith)))
+
+-- Every word of the block chooses what the decided marks choose.
+pub node-chooses :
+    {t : Tables} {k m gain cost count : ℕ} → Node t k m gain cost count → (x : ℕ) → m ≤ x → x < m + 2 ^ k →
+    (r : Row) → List·Memᴰ r (picked m (t .rows)) → List·Memᴰ r (picked x (t .rows))
+node-chooses {t} {k} {m} n x low high r h =
+    subst (λ (l : List Row). List·Memᴰ r l) (sym (node-picked n x low high))
+    (Memᴰ·append-right (picked (x - m) (take k (t .rows))) (subst (λ (l : List Row). List·Memᴰ r l) decided h))
+  where
+    decided : picked m (t .rows) ≡ chosenFrom t k (n .decided)
+    decided =
+        node-picked n m (omega arith) (omega (arith, one-le-pow k 2 (omega arith)))
+        ∙ ap (λ (l : List Row). l ++ chosenFrom t k (n .decided))
+        (ap (λ (y : ℕ). picked y (take k (t .rows))) (omega arith) ∙ picked-none (take k (t .rows)))
 
 -- With the row at place k chosen, every word of the block chooses it.
 pub node-holds :
