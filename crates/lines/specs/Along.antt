@@ -37,9 +37,9 @@ nothing-wrote : (t : List ℕ) (at : ℕ) → Wrote t at [] t at
 nothing-wrote t at = (
   sym (add-zero at),
   sym
-  (ap (λ (n : ℕ). take at t ++ [] ++ drop n t) (add-zero at)
-  ∙ ap (λ (l : List ℕ). l ++ drop at t) (append-nil (take at t))
-  ∙ take-append-drop at t),
+      (ap (λ (n : ℕ). take at t ++ [] ++ drop n t) (add-zero at)
+      ∙ ap (λ (l : List ℕ). l ++ drop at t) (append-nil (take at t))
+      ∙ take-append-drop at t),
 )
 
 pub along-start : (feed t : List ℕ) (start count : ℕ) (w : Wallet) → T (isSound w) × (viewed w ≡ States.opened []) →

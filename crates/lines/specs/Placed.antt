@@ -22,10 +22,10 @@ pub placed-twice : (at : ℕ) (a b t : List ℕ) → at + length a + length b �
 placed-twice at a b t h =
     let front : length (take at t ++ a) ≡ at + length a = length-append (take at t) a ∙ ap (λ (n : ℕ). n + length a) (length-take-le at t (omega arith)) in
     let rest : drop (at + length a + length b) (placed at a t) ≡ drop (at + length (a ++ b)) t =
-        ap (λ (n : ℕ). drop (n + length b) (placed at a t)) (sym front)
-        ∙ drop-append-add (take at t ++ a) (drop (at + length a) t) (length b)
-        ∙ drop-drop (length b) (at + length a) t
-        ∙ ap (λ (n : ℕ). drop n t) (add-assoc at (length a) (length b) ∙ ap (λ (n : ℕ). at + n) (sym (length-append a b)))
+    ap (λ (n : ℕ). drop (n + length b) (placed at a t)) (sym front)
+    ∙ drop-append-add (take at t ++ a) (drop (at + length a) t) (length b)
+    ∙ drop-drop (length b) (at + length a) t
+    ∙ ap (λ (n : ℕ). drop n t) (add-assoc at (length a) (length b) ∙ ap (λ (n : ℕ). at + n) (sym (length-append a b)))
     in
     ap (λ (l : List ℕ). l ++ b ++ drop (at + length a + length b) (placed at a t)) (take-at (take at t ++ a) (drop (at + length a) t) (at + length a) front)
     ∙ ap (λ (l : List ℕ). take at t ++ a ++ b ++ l) rest

@@ -11,7 +11,6 @@ use Rattle.rules.specs.Minimum.{minimumBalance}
 use Rattle.rules.specs.Steps.{Step, opening, block, pay, rollBack}
 use Rattle.format.specs.Bodies.{Body, ownBody, blockBody, payBody, backBody, faultAt, ownKind, blockKind, payKind}
 use Rattle.format.specs.Feed.{Event, events, wellFormed}
-
 use Rattle.lines.specs.declared.Line.{Line}
 
 -- ── numbers and words as bytes

@@ -102,8 +102,8 @@ module _ (feed t u : List ℕ) (long : ℕ) (e : mostSheet ≡ length t) (h : Ho
         let f = le-leb (length (sheet feed)) (length out) (omega (arith, h .0)) in
         let x = subst (λ (l : List ℕ). Wrote out 0 l v end) prefix w in (
           ap (λ (n : ℕ). record { answer = 0; length = n }) (x .0 ∙ zero-add (length (sheet feed)))
-          ∙ ap (λ (b : Bool). cond b (record { answer = 0; length = length (sheet feed) }) (record { answer = 10; length = 0 })) (sym f),
+              ∙ ap (λ (b : Bool). cond b (record { answer = 0; length = length (sheet feed) }) (record { answer = 10; length = 0 })) (sym f),
           x .1
-          ∙ ap (λ (n : ℕ). sheet feed ++ drop n out) (zero-add (length (sheet feed)))
-          ∙ ap (λ (b : Bool). cond b (sheet feed ++ drop (length (sheet feed)) out) out) (sym f),
+              ∙ ap (λ (n : ℕ). sheet feed ++ drop n out) (zero-add (length (sheet feed)))
+              ∙ ap (λ (b : Bool). cond b (sheet feed ++ drop (length (sheet feed)) out) out) (sym f),
         )

@@ -39,9 +39,10 @@ put-events-requires : tie.Need-put-events-requires
 put-events-requires c κs =
     let written = c .before .before .before in
     let checked = written .before .before .before .before in
-    let start = checked .before .before .before in
-    (well-formed (start .args .feed .now) (start .args .t .now) (start .pre) (checked .check .result) (checked .check .ensures) (written .before .before .before .if1 .left),
-    events-room (start .args .feed .now) (start .args .t .now) (start .pre) (checked .check .result) (checked .check .ensures) (written .before .before .before .if1 .left) (written .put2 .last .0) (written .put2 .result) (written .put2 .ensures))
+    let start = checked .before .before .before in (
+      well-formed (start .args .feed .now) (start .args .t .now) (start .pre) (checked .check .result) (checked .check .ensures) (written .before .before .before .if1 .left),
+      events-room (start .args .feed .now) (start .args .t .now) (start .pre) (checked .check .result) (checked .check .ensures) (written .before .before .before .if1 .left) (written .put2 .last .0) (written .put2 .result) (written .put2 .ensures),
+    )
 
 same-length-2 : tie.Need-same-length-2
 same-length-2 c = search needs
