@@ -1,6 +1,6 @@
 -- The loop over the rows: after the first so many the text holds their lines, and the wallet is the rules'.
 use Prim.Native.Nat.{ℕ, zero, suc, _+_, _-_, _≤_, _<_}
-use mathlib.Core.Path.{_≡_, refl, sym, ap, ap₂, subst, _∙_}
+use mathlib.Core.Path.{_≡_, sym, ap, ap₂, subst, _∙_}
 use mathlib.Core.List.{List, [], _++_, append-nil}
 use native.Mathlib.Nat.{add-zero, add-suc}
 use native.Mathlib.Numerals.{add-one}
@@ -13,7 +13,7 @@ use Rattle.rules.specs.Steps as Steps
 use Rattle.rules.specs.Steps.{opening}
 use Rattle.format.specs.Bodies as Format
 use Rattle.format.specs.Bodies.{readBody}
-use Rattle.format.specs.Feed.{eventAt, kindIn, bodyIn, countIn, rowKind, rowBody, wellFormed}
+use Rattle.format.specs.Feed.{kindIn, bodyIn, countIn, rowKind, rowBody, wellFormed}
 use Rattle.format.specs.Rows.{row-found, is-row}
 use Rattle.wallet.specs.declared.Wallet.{Wallet}
 use Rattle.wallet.specs.declared.Step.{Step}
@@ -21,7 +21,7 @@ use Rattle.wallet.specs.Contract.{viewed, isSound, Reads}
 use Rattle.wallet.specs.ContractLaws.{opened-sound}
 use Rattle.lines.specs.declared.Line.{Line}
 use Rattle.lines.specs.Sheet.{lineText, eventStep, eventLine}
-use Rattle.lines.specs.Placed.{placed, Wrote, room-less, wrote-length, wrote-room, wrote-then}
+use Rattle.lines.specs.Placed.{Wrote, wrote-length, wrote-room, wrote-then}
 use Rattle.lines.specs.Events.{Told, stepOf}
 use Rattle.lines.specs.Rows.{textTo, heldAfter, nextStep, nextLine, text-more, held-more}
 

@@ -1,13 +1,13 @@
 -- How long a sheet can be: a head line and at most 256 lines, none longer than 94 bytes.
-use Prim.Native.Nat.{ℕ, zero, suc, _+_, _*_, _^_, _≤_, _<_}
-use mathlib.Core.Path.{_≡_, refl, sym, ap, subst, _∙_}
+use Prim.Native.Nat.{ℕ, zero, suc, _+_, _*_, _≤_}
+use mathlib.Core.Path.{ap}
 use mathlib.Core.Bool.{Bool, true, false, cond}
 use mathlib.Core.List.{List, [], _∷_, _++_}
 use native.Mathlib.Omega.{arith}
 use lib.Dec.{T, eqb, leb, leb→le}
 use lib.IntN.{ℤ, pos, negsuc, natAbs}
-use lib.ListN.{length, length-append, length-map}
-use Rattle.sets.specs.Sets.{all, every, gather}
+use lib.ListN.{length, length-append}
+use Rattle.sets.specs.Sets.{all, gather}
 use Rattle.sets.specs.Tests.{and-left, and-right, every-at}
 use Rattle.rules.specs.Sizes.{largestAmount, mostReferences}
 use Rattle.rules.specs.Chain.{shapedOwn}
@@ -20,8 +20,7 @@ use Rattle.soundness.specs.Bounds.{available-bound, total-bound, minimum-bound,
 use Rattle.format.specs.Bodies.{Body, ownKind, readBody, bodyAnswer, ownBody, blockBody, payBody, backBody, faultAt}
 use Rattle.format.specs.Feed.{mostBytes, headBytes, feedVersion, fewestRows, mostRows, versionIn, countIn, tableEnd, bodyIn, rowsRight, wellFormed, rowCount, Event, events}
 use Rattle.format.specs.Rows.{count-of-formed}
-use Rattle.lines.specs.declared.Line.{Line}
-use Rattle.lines.specs.Sheet.{decimal, signed, kindWord, ownWord, blockWord, payWord, backWord, headLine, refusedLine, lineText, eventStep, eventLine, linesFrom, sheet}
+use Rattle.lines.specs.Sheet.{signed, kindWord, ownWord, blockWord, payWord, backWord, headLine, refusedLine, lineText, eventStep, eventLine, linesFrom, sheet}
 use Rattle.lines.specs.Decimals.{decimal-few}
 use Rattle.lines.specs.Text.{line-parts}
 use Rattle.lines.specs.Rows.{events-length}

@@ -6,7 +6,7 @@ use native.Mathlib.Nat.{add-assoc}
 use native.Mathlib.Numerals.{add-one}
 use native.Mathlib.Omega.{arith}
 use lib.ListN.{length, take, drop, getD, set, length-append, length-take, length-drop}
-use lib.Seq.{length-take-le, take-at, drop-at, take-length, drop-drop, drop-append-add, append-snoc, set-split, paste, paste-suc, length-paste}
+use lib.Seq.{length-take-le, take-at, take-length, drop-drop, drop-append-add, append-snoc, set-split, paste, paste-suc, length-paste}
 
 abbrev pub placed : ℕ → List ℕ → List ℕ → List ℕ
 placed at bytes t = take at t ++ bytes ++ drop (at + length bytes) t

@@ -1,13 +1,12 @@
 -- The lines row by row: what stands on the sheet after so many rows, and the wallet that they leave.
-use Prim.Native.Nat.{ℕ, zero, suc, _+_, _≤_, _<_}
-use mathlib.Core.Path.{_≡_, refl, sym, ap, ap₂, subst, _∙_}
+use Prim.Native.Nat.{ℕ, zero, suc, _+_}
+use mathlib.Core.Path.{_≡_, refl, sym, ap, _∙_}
 use mathlib.Core.Bool.{Bool, not, cond}
 use mathlib.Core.List.{List, [], _∷_, _++_, map, append-nil}
 use native.Mathlib.Nat.{add-zero, add-suc, suc-add}
-use native.Mathlib.Numerals.{add-one}
 use native.Mathlib.Omega.{arith}
 use lib.Dec.{T}
-use lib.ListN.{length, length-append, length-map}
+use lib.ListN.{length, length-map}
 use Rattle.sets.specs.Sets.{gather}
 use Rattle.sets.specs.Laws.{gather-append}
 use Rattle.sets.specs.Tests.{is-true, is-false}

@@ -2,7 +2,7 @@
 use Prim.Native.Nat.{ℕ, zero, suc, _+_, _/_, _%_}
 use mathlib.Core.Bool.{cond}
 use mathlib.Core.List.{List, [], _∷_, _++_}
-use lib.Dec.{eqb, ltb}
+use lib.Dec.{eqb}
 use lib.IntN.{ℤ, pos, negsuc}
 use Rattle.sets.specs.Sets.{gather}
 use Rattle.rules.specs.States.{Wallet, opened}
@@ -15,11 +15,12 @@ use Rattle.lines.specs.declared.Line.{Line}
 
 -- ── numbers and words as bytes
 
--- 0 to 9
+-- the character of a digit, 0 to 9
 abbrev pub digit : ℕ → ℕ
 digit n = 48 + n
 
--- The decimal digits of a number, the most significant first, none for 0; the first number bounds how many there can be.
+-- The decimal digits of a number, the most significant first, none for 0. The first number bounds how many are written;
+-- n is enough for n, since a number has no more digits than itself.
 abbrev pub digitsWithin : ℕ → ℕ → List ℕ
 digitsWithin zero n = []
 digitsWithin (suc most) zero = []

@@ -2,6 +2,7 @@
 // endian, and a feed; the modes:
 //     i    the inside text: readings, counts and sets after each event, and what every call answers to a damaged wallet
 //     m    the minimum after the last event, worked out so many times over, and its number of payments
+//     s    the length of the feed's sheet, worked out so many times over
 // Anything else is an unknown mode.
 ghost use mathlib.Core.Path.{_≡_};
 ghost use Prim.Native.Nat.{_≤_};
@@ -10,6 +11,7 @@ use inside::put_inside;
 use libc::STDIN_FILENO;
 use text::put_all;
 use text::write_out;
+use times::put_length;
 use times::put_minimum;
 
 mod answers;
@@ -23,6 +25,8 @@ mod times;
 const INSIDE: u8 = b'i';
 
 const MINIMUM: u8 = b'm';
+
+const SHEET: u8 = b's';
 
 const HEAD_BYTES: usize = 5;
 
@@ -51,6 +55,9 @@ fn count_of(a: u8, b: u8, c: u8, d: u8) -> u64 {
 
 // The text of a mode, as far as it is not written out already, and where it ends.
 fn put_mode(mode: u8, count: u64, feed: &[u8], t: &mut [u8]) -> usize {
+    if mode == SHEET {
+        return put_length(feed, t, 0, count);
+    }
     let known = (mode == INSIDE) | (mode == MINIMUM);
     if !known {
         return put_all(t, 0, b"unknown mode\n");
