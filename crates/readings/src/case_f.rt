@@ -28,7 +28,7 @@ pub(crate) fn row_5() -> Transaction {
 }
 
 // The wallet after rows 2 to 7.
-fn after_2() -> Wallet {
+pub(crate) fn after_2() -> Wallet {
     fresh().block(row_2()).wallet
 }
 
@@ -36,11 +36,11 @@ pub(crate) fn after_3() -> Wallet {
     after_2().pay(row_3()).wallet
 }
 
-fn after_4() -> Wallet {
+pub(crate) fn after_4() -> Wallet {
     after_3().block(row_4()).wallet
 }
 
-fn after_5() -> Wallet {
+pub(crate) fn after_5() -> Wallet {
     after_4().pay(row_5()).wallet
 }
 

@@ -32,30 +32,40 @@ fn close(good: bool, answer: u32, movement: i64) {
     verdict(good);
 }
 
+// The line on a step's answer and movement.
+fn told_step(asked: &[u8], answer: u32, movement: i64, wanted: u32, wanted_movement: i64) {
+    let good = (answer == wanted) & (movement == wanted_movement);
+    say(asked);
+    part(b": answer ", answer as u64);
+    moved(movement);
+    close(good, wanted, wanted_movement);
+}
+
 // A step's answer and movement, held against those wanted. Hands the wallet on.
 pub(crate) fn step(asked: &[u8], came: Step, answer: u32, movement: i64) -> Wallet {
-    let good = (came.answer == answer) & (came.movement == movement);
-    say(asked);
-    part(b": answer ", came.answer as u64);
-    moved(came.movement);
-    close(good, answer, movement);
+    told_step(asked, came.answer, came.movement, answer, movement);
     came.wallet
+}
+
+// The line on a refused step.
+fn told_refusal(asked: &[u8], answer: u32, movement: i64, same: bool, wanted: u32) {
+    let good = (answer == wanted) & (movement == 0);
+    say(asked);
+    part(b": answer ", answer as u64);
+    moved(movement);
+    if same {
+        say(b", wallet the same");
+    } else {
+        say(b", another wallet");
+    }
+    close(good & same, wanted, 0);
 }
 
 // A refused step: its answer, no movement, and the very wallet that came in.
 pub(crate) fn refused(asked: &[u8], before: Wallet, came: Step, answer: u32) {
     let after = came.wallet;
     let same = same_wallet(before, after);
-    let good = (came.answer == answer) & (came.movement == 0);
-    say(asked);
-    part(b": answer ", came.answer as u64);
-    moved(came.movement);
-    if same {
-        say(b", wallet the same");
-    } else {
-        say(b", another wallet");
-    }
-    close(good & same, answer, 0);
+    told_refusal(asked, came.answer, came.movement, same, answer);
 }
 
 // Each step accepted, with its movement.
@@ -84,10 +94,8 @@ pub(crate) fn not_rolled(asked: &[u8], w: Wallet, answer: u32) {
     refused(asked, w, w.roll_back(), answer);
 }
 
-// The balances of a wallet, held against those wanted.
-fn balances(w: Wallet, available: u64, total: u64) -> bool {
-    let free = w.available().amount;
-    let all = w.total().amount;
+// The part of a line on two balances.
+fn told_balances(free: u64, all: u64, available: u64, total: u64) -> bool {
     part(b", available ", free);
     part(b", total ", all);
     let good = (free == available) & (all == total);
@@ -96,6 +104,11 @@ fn balances(w: Wallet, available: u64, total: u64) -> bool {
         part(b" and ", total);
     }
     good
+}
+
+// The balances of a wallet, held against those wanted.
+fn balances(w: Wallet, available: u64, total: u64) -> bool {
+    told_balances(w.available().amount, w.total().amount, available, total)
 }
 
 // A step of the case F: answer, available, total and movement.
@@ -117,39 +130,138 @@ pub(crate) fn event(
     after
 }
 
-fn first_of(list: Made) -> rules::Entry {
+// The line on a minimum.
+fn told_least(
+    asked: &[u8],
+    came: minimum::Least,
+    stand: u64,
+    amount: u64,
+    payments: u32,
+    pending: u64,
+) {
+    let reached = (came.amount == amount) & (came.payments == payments);
+    let good = (came.answer == 0) & reached & (stand == pending);
+    say(asked);
+    part(b": ", came.amount);
+    part(b" with ", came.payments as u64);
+    part(b" of ", stand);
+    say(b" payments");
+    if !good {
+        part(b", answer ", came.answer as u64);
+        part(b", wanted ", amount);
+        part(b" with ", payments as u64);
+        part(b" of ", pending);
+    }
+    verdict(good);
+}
+
+// How many payments are pending.
+pub(crate) fn pending(w: Wallet) -> u64 {
+    w.pending_list().list.count as u64
+}
+
+// The minimum of a wallet, the fewest payments that reach it and how many are pending, held against those wanted.
+pub(crate) fn least(asked: &[u8], w: Wallet, amount: u64, payments: u32, stand: u64) {
+    told_least(
+        asked,
+        minimum::minimum(w),
+        pending(w),
+        amount,
+        payments,
+        stand,
+    );
+}
+
+// The three balances that one call gives, held against those wanted.
+pub(crate) fn three(
+    asked: &[u8],
+    came: minimum::ThreeBalances,
+    available: u64,
+    total: u64,
+    amount: u64,
+    payments: u32,
+) {
+    let reached = (came.minimum == amount) & (came.payments == payments);
+    let others = (came.available == available) & (came.total == total);
+    let good = (came.answer == 0) & reached & others;
+    say(asked);
+    part(b": available ", came.available);
+    part(b", total ", came.total);
+    part(b", minimum ", came.minimum);
+    part(b" with ", came.payments as u64);
+    if !good {
+        part(b", answer ", came.answer as u64);
+        part(b", wanted ", available);
+        part(b", ", total);
+        part(b", ", amount);
+        part(b" with ", payments as u64);
+    }
+    verdict(good);
+}
+
+fn first_of(list: Made) -> rules::Reference {
     let entries = list.entries;
-    entries[0]
+    let first = entries[0];
+    first.reference
+}
+
+// The line on a list with one entry.
+fn told_single(asked: &[u8], count: u64, serial: u64, index: u16, good: bool) {
+    say(asked);
+    part(b": ", count);
+    part(b" entry, ", serial);
+    part(b".", index as u64);
+    verdict(good & (count == 1));
 }
 
 // A list with one entry.
 pub(crate) fn single(asked: &[u8], came: Listed, serial: u64, index: u16) {
     let list = came.list;
-    let entry = first_of(list);
-    let reference = entry.reference;
+    let reference = first_of(list);
     let first = reference.number;
-    let alone = list.count == 1;
     let named = (first.serial == serial) & (reference.index == index);
+    told_single(
+        asked,
+        list.count as u64,
+        first.serial,
+        reference.index,
+        named & (came.answer == 0),
+    );
+}
+
+// The number of the first payment of a list, or of the second.
+fn first_number(list: Block) -> u64 {
+    let transactions = list.transactions;
+    let first = transactions[0];
+    first.number.serial
+}
+
+fn second_number(list: Block) -> u64 {
+    let transactions = list.transactions;
+    let second = transactions[1];
+    second.number.serial
+}
+
+// The line on a list with two payments.
+fn told_pair(asked: &[u8], count: u64, first: u64, second: u64, good: bool) {
     say(asked);
-    part(b": ", list.count as u64);
-    part(b" entry, ", first.serial);
-    part(b".", reference.index as u64);
-    verdict(alone & named & (came.answer == 0));
+    part(b": ", count);
+    part(b" payments, ", first);
+    part(b" and ", second);
+    verdict(good & (count == 2));
 }
 
 // A list with two payments.
 pub(crate) fn pair(asked: &[u8], came: Pending, low: u64, high: u64) {
     let list = came.list;
-    let transactions = list.transactions;
-    let first = transactions[0];
-    let second = transactions[1];
-    let first_number = first.number;
-    let second_number = second.number;
-    let two = list.count == 2;
-    let named = (first_number.serial == low) & (second_number.serial == high);
-    say(asked);
-    part(b": ", list.count as u64);
-    part(b" payments, ", first_number.serial);
-    part(b" and ", second_number.serial);
-    verdict(two & named & (came.answer == 0));
+    let first = first_number(list);
+    let second = second_number(list);
+    let named = (first == low) & (second == high);
+    told_pair(
+        asked,
+        list.count as u64,
+        first,
+        second,
+        named & (came.answer == 0),
+    );
 }

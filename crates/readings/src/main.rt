@@ -3,6 +3,7 @@
 mod build;
 mod case_f;
 mod checks;
+mod least;
 mod lines;
 mod papers;
 mod probe;
@@ -10,11 +11,14 @@ mod refusals;
 mod same;
 mod sizes;
 mod spoil;
+mod tangle;
 mod unsound;
 
 fn main() {
     papers::run();
     case_f::run();
+    least::run();
+    tangle::run();
     sizes::run();
     refusals::run();
     unsound::run();

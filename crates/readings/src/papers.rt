@@ -1,4 +1,4 @@
-// The paper's readings 4 to 12, the minimum aside, through the wallet's steps.
+// The paper's readings 4 to 12 through the wallet's steps.
 use crate::build::alone;
 use crate::build::empty_block;
 use crate::build::making;
@@ -7,6 +7,7 @@ use crate::build::spending;
 use crate::build::taking;
 use crate::build::then;
 use crate::checks::booked;
+use crate::checks::least;
 use crate::checks::not_booked;
 use crate::checks::not_paid;
 use crate::checks::not_rolled;
@@ -39,7 +40,7 @@ fn reading_4() {
     );
 }
 
-fn reading_5() {
+fn reading_5() -> Wallet {
     let block = alone(making(sending(300, 1, 0, 10, 10), 1, 10, 20));
     let start = booked(b"reading 5: a block with 300", fresh(), block, 30);
     let both = making(taking(spending(400, 300, 0), 300, 1), 0, 10, 29);
@@ -56,6 +57,7 @@ fn reading_5() {
         402,
     );
     expect(b"reading 5: available after it", back.available().amount, 0);
+    back
 }
 
 fn reading_6() {
@@ -175,7 +177,7 @@ fn reading_11() {
 // Reading 12 is among the sizes.
 pub(crate) fn run() {
     reading_4();
-    reading_5();
+    least(b"reading 5: minimum after it", reading_5(), 29, 1, 2);
     reading_6();
     reading_7();
     reading_8();

@@ -8,6 +8,8 @@ use crate::lines::verdict;
 use crate::same::no_entries;
 use crate::same::no_payments;
 use crate::same::same_wallet;
+use minimum::Least;
+use minimum::ThreeBalances;
 use wallet::Amount;
 use wallet::Listed;
 use wallet::Pending;
@@ -49,6 +51,20 @@ fn of_pending(t: Tally, came: Pending) -> Tally {
     told(t, came.answer == 9, none)
 }
 
+fn of_least(t: Tally, came: Least) -> Tally {
+    told(
+        t,
+        came.answer == 9,
+        (came.amount == 0) & (came.payments == 0),
+    )
+}
+
+fn of_balances(t: Tally, came: ThreeBalances) -> Tally {
+    let first = (came.available == 0) & (came.total == 0);
+    let last = (came.minimum == 0) & (came.payments == 0);
+    told(t, came.answer == 9, first & last)
+}
+
 // The three steps, with a block and a payment that the case F takes after its row 6.
 fn steps(w: Wallet) -> Tally {
     let none = Tally { nines: 0, still: 0 };
@@ -58,7 +74,7 @@ fn steps(w: Wallet) -> Tally {
     of_step(of_step(of_step(none, w, block), w, pay), w, back)
 }
 
-// The seven queries.
+// The nine queries.
 fn queries(w: Wallet) -> Tally {
     let none = Tally { nines: 0, still: 0 };
     let amounts = of_amount(
@@ -68,7 +84,8 @@ fn queries(w: Wallet) -> Tally {
     let unspent = of_list(amounts, w.utxo_list());
     let expected = of_list(unspent, w.expected_list());
     let available = of_list(expected, w.available_list());
-    of_pending(available, w.pending_list())
+    let pending = of_pending(available, w.pending_list());
+    of_balances(of_least(pending, minimum::minimum(w)), minimum::balances(w))
 }
 
 // A wallet that is not sound: 9 from each call, and nothing else.
@@ -80,12 +97,12 @@ pub(crate) fn unsound(asked: &[u8], w: Wallet) {
     say(asked);
     say(b": ");
     number(nines);
-    say(b" of 10 calls answered 9, ");
+    say(b" of 12 calls answered 9, ");
     number(queried.still);
-    say(b" of 7 queries empty, ");
+    say(b" of 9 queries empty, ");
     number(stepped.still);
     say(b" of 3 wallets the same");
-    verdict((nines == 10) & (queried.still == 7) & (stepped.still == 3));
+    verdict((nines == 12) & (queried.still == 9) & (stepped.still == 3));
 }
 
 // A sound wallet beside those: 9 from no call.
@@ -97,6 +114,6 @@ pub(crate) fn sound(asked: &[u8], w: Wallet) {
     say(asked);
     say(b": ");
     number(nines);
-    say(b" of 10 calls answered 9");
+    say(b" of 12 calls answered 9");
     verdict(nines == 0);
 }

@@ -15,9 +15,11 @@ use crate::build::taking_eight;
 use crate::build::then;
 use crate::build::twelve_making;
 use crate::checks::booked;
+use crate::checks::least;
 use crate::checks::not_booked;
 use crate::checks::not_paid;
 use crate::checks::paid;
+use crate::checks::pending;
 use crate::checks::rolled;
 use crate::checks::step;
 use crate::lines::expect;
@@ -74,17 +76,13 @@ pub(crate) const OWN_33: [u32; 33] = [
     42,
 ];
 
-// How many entries, or payments, stand in a present set.
+// How many entries stand in a present set.
 fn unspent(w: Wallet) -> u64 {
     w.utxo_list().list.count as u64
 }
 
 fn expected(w: Wallet) -> u64 {
     w.expected_list().list.count as u64
-}
-
-fn pending(w: Wallet) -> u64 {
-    w.pending_list().list.count as u64
 }
 
 // A refused opening: 1, and the wallet of an opening with the empty list.
@@ -269,20 +267,22 @@ pub(crate) fn one_more(serial: u64) -> Transaction {
     sending(serial, 1000, 7, 99, 5)
 }
 
+fn two_more(w: Wallet) -> Wallet {
+    let one = paid(b"reading 12: the 13th payment", w, five(3012, 1012), -5);
+    paid(b"reading 12: the 14th payment", one, five(3013, 1013), -5)
+}
+
+fn last_two(w: Wallet) -> Wallet {
+    let one = paid(b"reading 12: the 15th payment", w, five(3014, 1014), -5);
+    paid(b"reading 12: the 16th payment", one, five(3015, 1015), -5)
+}
+
 fn payments() {
     let twelve = twelve_payments();
     expect(b"reading 12: pending", pending(twelve), 12);
-    let one = paid(
-        b"reading 12: the 13th payment",
-        twelve,
-        five(3012, 1012),
-        -5,
-    );
-    let two = paid(b"reading 12: the 14th payment", one, five(3013, 1013), -5);
-    let three = paid(b"reading 12: the 15th payment", two, five(3014, 1014), -5);
-    let four = paid(b"reading 12: the 16th payment", three, five(3015, 1015), -5);
-    expect(b"reading 12: pending", pending(four), 16);
-    not_paid(b"reading 12: the 17th payment", four, one_more(3016), 7);
+    let sixteen = last_two(two_more(twelve));
+    expect(b"reading 12: pending", pending(sixteen), 16);
+    not_paid(b"reading 12: the 17th payment", sixteen, one_more(3016), 7);
 }
 
 // A wallet after empty blocks: two, five.
@@ -350,28 +350,30 @@ fn one_short() -> Block {
     then(fifteen, making_seven(1015, 1, 10, 5))
 }
 
-fn references() {
+fn all_references() -> Wallet {
     let start = booked(
         b"reading 12: a block of 127 outputs",
         fresh(),
         one_short(),
         635,
     );
-    let full = booked(b"reading 12: the 128th reference", start, one_own(2000), 5);
+    booked(b"reading 12: the 128th reference", start, one_own(2000), 5)
+}
+
+fn references() {
+    let full = all_references();
     expect(b"reading 12: unspent", unspent(full), 128);
     not_booked(b"reading 12: the 129th reference", full, one_own(2001), 7);
-    let foreign = alone(sending(2001, 1, 0, 99, 5));
     booked(
         b"reading 12: an output to others needs no room",
         full,
-        foreign,
+        alone(sending(2001, 1, 0, 99, 5)),
         0,
     );
-    let spent = then(one_own(2001), spending(2002, 2001, 0));
     booked(
         b"reading 12: nor does one that its block spends",
         full,
-        spent,
+        then(one_own(2001), spending(2002, 2001, 0)),
         0,
     );
 }
@@ -444,7 +446,13 @@ fn put_four(w: Wallet, place: usize, serial: u64) -> Wallet {
     put_payment(three, fourth, income(on(serial, 3), LARGEST_AMOUNT), 1)
 }
 
-// The largest movements either way, and the largest total that a sound wallet has.
+fn with_sixteen(w: Wallet) -> Wallet {
+    let eight = put_four(put_four(w, 0, 5000), 4, 5004);
+    let sixteen = put_four(put_four(eight, 8, 5008), 12, 5012);
+    paying(sixteen, 16)
+}
+
+// The largest movements either way, the largest total that a sound wallet has, and its minimum: no payment's input stands.
 fn balances() {
     let full = booked(
         b"size: 128 outputs at the limit",
@@ -458,9 +466,7 @@ fn balances() {
         sixteen_taking(2000, 1000),
         -5_760_000_000_000_000_000,
     );
-    let eight = put_four(put_four(full, 0, 5000), 4, 5004);
-    let sixteen = put_four(put_four(eight, 8, 5008), 12, 5012);
-    let rich = paying(sixteen, 16);
+    let rich = with_sixteen(full);
     expect(
         b"size: available beside 128 pending outputs at the limit",
         rich.available().amount,
@@ -470,6 +476,13 @@ fn balances() {
         b"size: total of the two",
         rich.total().amount,
         11_520_000_000_000_000_000,
+    );
+    least(
+        b"size: minimum of the two",
+        rich,
+        5_760_000_000_000_000_000,
+        0,
+        16,
     );
 }
 
