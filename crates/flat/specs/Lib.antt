@@ -3,3 +3,4 @@ pub mod Inner
 pub mod Slots
 pub mod SeekLaws
 pub mod Sought
+pub mod Halving

@@ -71,7 +71,7 @@ seek-first r (x ∷ l) (suc j) d h n t =
     n
 
 -- a place of a list is a member of it
-getD-member : (l : List Reference) (j : ℕ) (d : Reference) → j < length l → List·Memᴰ (getD l j d) l
+pub getD-member : (l : List Reference) (j : ℕ) (d : Reference) → j < length l → List·Memᴰ (getD l j d) l
 getD-member [] j d h = absurd (not-suc-le-zero h)
 getD-member (x ∷ l) zero d h = List·Memᴰ·head refl
 getD-member (x ∷ l) (suc j) d h = List·Memᴰ·tail (getD-member l j d (le-of-suc-le-suc h))
