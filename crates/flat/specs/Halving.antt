@@ -173,28 +173,26 @@ module _ (these those : List Reference) (ends stops : ℕ) (at : List ℕ) (i lo
       (from ≤ to) × (to ≤ stops) × Within sought among from to
   narrowed middle from to true m n b f t =
       let inside : middle < stops = omega (arith, s .3, s .4, m) in
-      let there : getD among middle zeroReference ≡ getD those middle zeroReference = getD-take stops those middle zeroReference inside in
-      (
+      let there : getD among middle zeroReference ≡ getD those middle zeroReference = getD-take stops those middle zeroReference inside in (
         omega (arith, f, t, m, s .3),
         omega (arith, t, s .4),
         subst (λ (u : ℕ). Within sought among u to) (sym f)
-        (subst (Within sought among (middle + 1)) (sym t)
-        (within-above sought among low high middle (s .7) (omega (arith, size, inside))
-        (subst (λ (r : Reference). T (beforeReference r sought)) (sym there) (subst (λ (q : Bool). T q) b tt))
-        (s .8))),
+            (subst (Within sought among (middle + 1)) (sym t)
+            (within-above sought among low high middle (s .7) (omega (arith, size, inside))
+            (subst (λ (r : Reference). T (beforeReference r sought)) (sym there) (subst (λ (q : Bool). T q) b tt))
+            (s .8))),
       )
   narrowed middle from to false m n b f t =
       let inside : middle < stops = omega (arith, s .3, s .4, m) in
-      let there : getD among middle zeroReference ≡ getD those middle zeroReference = getD-take stops those middle zeroReference inside in
-      (
+      let there : getD among middle zeroReference ≡ getD those middle zeroReference = getD-take stops those middle zeroReference inside in (
         omega (arith, f, t, m, s .3),
         omega (arith, t, inside),
         subst (λ (u : ℕ). Within sought among u to) (sym f)
-        (subst (Within sought among low) (sym t)
-        (within-below sought among low high middle (s .7)
-        (subst (λ (r : Reference). T (not (beforeReference r sought))) (sym there) (subst (λ (q : Bool). T (not q)) b tt))
-        (subst (λ (r : Reference). T (not (sameReference sought r))) (sym there) n)
-        (s .8))),
+            (subst (Within sought among low) (sym t)
+            (within-below sought among low high middle (s .7)
+            (subst (λ (r : Reference). T (not (beforeReference r sought))) (sym there) (subst (λ (q : Bool). T (not q)) b tt))
+            (subst (λ (r : Reference). T (not (sameReference sought r))) (sym there) n)
+            (s .8))),
       )
 
   -- a turn keeps what holds

@@ -352,8 +352,8 @@ fn sought_by_halves(a: Refs, b: Refs) -> Places
         let next = middle + 1;
         let from = place_if(below, next, low);
         let to = place_if(below, high, middle);
-        let last = from == to;
-        let done = hit | last;
+        let none = from == to;
+        let done = hit | none;
         at[i] = place_if(hit, middle, stops);
         low = turn(done, from);
         high = place_if(done, stops, to);

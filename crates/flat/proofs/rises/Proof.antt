@@ -1,13 +1,11 @@
 -- The walk over the references tells whether they ascend. Invariant: the flag says it of the first i.
 use Prim.Native.Nat.{ℕ, _≤_, _-_, max}
 use mathlib.Core.Path.{_≡_, sym, ap, _∙_}
-use mathlib.Core.List.{List}
 use native.Mathlib.Omega.{arith}
 use lib.ListN.{length, take}
 use Rattle.sets.specs.Sets.{ascending}
 use Rattle.sets.specs.Walks.{ascending-start, ascending-step, ascending-end}
 use Rattle.sets.specs.Fill.{mapped-length, take-capped}
-use Rattle.rules.specs.declared.Reference.{Reference}
 use Rattle.rules.specs.Chain.{beforeReference}
 use borrow.Author.Needs.{needs}
 use Rattle.flat.proofs.rises.Statement.{statement}
