@@ -93,7 +93,7 @@ fn makes_own(own: &[u32], reference: Reference, t: Transaction) -> bool
 }
 
 // A word with one mark more under it.
-fn pushed(word: u32, mark: bool) -> u32
+pub(crate) fn pushed(word: u32, mark: bool) -> u32
     requires { ⌜ word < 2 ^ mostPayments ⌝ }
     ensures { λ r. ⌜ r ≡ bit mark + 2 * word ⌝ }
 {

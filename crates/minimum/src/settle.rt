@@ -12,6 +12,7 @@ ghost use Rattle.sets.specs.Sets.{keep};
 ghost use Rattle.tables.specs.Tables.{isSingle, raised, settledRows};
 ghost use Rattle.walk.specs.Walk.{emptyRow};
 use crate::brings;
+use crate::takings::amount_if;
 use rules::MOST_PAYMENTS;
 use rules::MOST_REFERENCES;
 use tables::Bring;
@@ -41,7 +42,7 @@ fn is_single(b: Bring) -> bool
     one & soft & owner & maker
 }
 
-// Which row is raised and by how much: the row of the one hard mark by the entry's amount, and else the first by nothing.
+// Which row is raised: that of the one hard mark by the entry's amount, and else the first by nothing.
 fn place_of(single: bool, hard: u32) -> usize
     ensures { λ r. ⌜ r ≡ cond single (trailingZeros 32 hard) 0 ⌝ }
 {
@@ -50,12 +51,6 @@ fn place_of(single: bool, hard: u32) -> usize
     } else {
         0
     }
-}
-
-fn amount_if(single: bool, amount: u64) -> u64
-    ensures { λ r. ⌜ r ≡ cond single amount 0 ⌝ }
-{
-    if single { amount } else { 0 }
 }
 
 // A row that adds more.
