@@ -1,6 +1,9 @@
 // Reads a feed on standard input and writes its sheet on standard output.
 ghost use mathlib.Core.Path.{_≡_};
+ghost use Prim.Native.Nat.{suc};
 ghost use lib.ListN.{length};
+ghost use Rattle.format.specs.Feed.{mostBytes};
+ghost use Rattle.lines.specs.Lengths.{mostSheet};
 use libc::STDIN_FILENO;
 use libc::STDOUT_FILENO;
 use lines::MOST_SHEET;
@@ -10,13 +13,13 @@ const MOST_INPUT: usize = 65_537;
 
 // Zeros to read into, and to write a sheet into.
 fn input() -> [u8; MOST_INPUT]
-    ensures { λ r. ⌜ 65537 ≡ length r ⌝ }
+    ensures { λ r. ⌜ suc mostBytes ≡ length r ⌝ }
 {
     [0; MOST_INPUT]
 }
 
 fn output() -> [u8; MOST_SHEET]
-    ensures { λ r. ⌜ 24112 ≡ length r ⌝ }
+    ensures { λ r. ⌜ mostSheet ≡ length r ⌝ }
 {
     [0; MOST_SHEET]
 }
