@@ -5,10 +5,11 @@ use native.Mathlib.Omega.{arith}
 use mathlib.Core.Path.{_≡_, sym, ap, subst, _∙_}
 use mathlib.Core.Logic.{⊎-elim}
 use mathlib.Core.Bool.{Bool, not}
-use mathlib.Core.List.{List}
+use mathlib.Core.List.{List, map, map-map}
 use lib.Dec.{T}
 use lib.IntN.{ℤ, pos, natAbs}
 use Rattle.sets.specs.Tests.{T-cases}
+use Rattle.sets.specs.Sets.{keep}
 use Rattle.rules.specs.Sizes.{largestAmount, mostReferences}
 use Rattle.rules.specs.States as States
 use Rattle.rules.specs.Steps as Steps
@@ -17,12 +18,16 @@ use Rattle.rules.specs.Calls.{Call, step}
 use Rattle.soundness.specs.Refused.{refused-unchanged}
 use Rattle.soundness.specs.Bounds.{movement-bound}
 use Rattle.soundness.specs.Kept.{opening-sound, step-sound}
+use Rattle.chain.specs.View.{viewTransaction}
+use Rattle.pool.specs.declared.Payment.{Payment}
+use Rattle.pool.specs.Marks.{marked}
+use Rattle.pool.specs.View.{paymentsOf}
 use Rattle.pool.specs.Good.{laidOut}
 use Rattle.pool.specs.LayoutLaws.{good-laid-out, good-view, laid-out-good}
 use Rattle.pool.specs.ViewLaws.{view-one}
 use Rattle.wallet.specs.declared.Wallet.{Wallet}
 use Rattle.wallet.specs.declared.Step.{Step}
-use Rattle.wallet.specs.Contract.{viewed, isSound, Reads, refusedStep, Stepped}
+use Rattle.wallet.specs.Contract.{viewed, isSound, Reads, refusedStep, Stepped, pendingStructs}
 
 -- two laid out wallets that show one wallet of the rules are one
 pub wallet-one : (w v : Wallet) → T (laidOut (w .pool)) → T (laidOut (v .pool)) → viewed w ≡ viewed v → w ≡ v
@@ -129,3 +134,9 @@ stepped-movement {w} {laid} {r} c a =
     (T-cases laid))
     (λ (g : T (not (isSound w))). unmoved r (refused-same w r 9 (a .unsound g) .1))
     (T-cases (isSound w))
+
+-- ── what is pending
+
+-- the structs that `pending_list` hands out hold the present pending set of the rules
+pub pending-told : (w : Wallet) → map viewTransaction (pendingStructs w) ≡ viewed w .present .pending
+pending-told w = map-map viewTransaction (λ (p : Payment). p .transaction) (keep (λ (p : Payment). marked 0 (p .pending)) (paymentsOf (w .pool)))
