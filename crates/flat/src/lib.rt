@@ -63,39 +63,13 @@ pub fn is_own(own: &[u32], address: u32) -> bool
 }
 
 // What an unused place holds.
-pub fn zero_reference() -> Reference
-    ensures { λ r. ⌜ r ≡ zeroReference ⌝ }
-{
-    Reference {
-        number: chain::zero_number(),
-        index: 0,
-    }
-}
-
 pub fn zero_entry() -> Entry
     ensures { λ r. ⌜ r ≡ zeroEntry ⌝ }
 {
     Entry {
-        reference: zero_reference(),
+        reference: chain::zero_reference(),
         address: 0,
         amount: 0,
-    }
-}
-
-pub fn zero_transaction() -> Transaction
-    ensures { λ r. ⌜ r ≡ zeroTransaction ⌝ }
-{
-    let reference = zero_reference();
-    Transaction {
-        number: chain::zero_number(),
-        inputs: [reference; MOST_INPUTS],
-        takes: 0,
-        outputs: [Output {
-            index: 0,
-            address: 0,
-            amount: 0,
-        }; MOST_OUTPUTS],
-        makes: 0,
     }
 }
 
@@ -103,7 +77,11 @@ pub fn zero_transaction() -> Transaction
 fn reference_if(live: bool, reference: Reference) -> Reference
     ensures { λ r. ⌜ r ≡ cond live reference zeroReference ⌝ }
 {
-    if live { reference } else { zero_reference() }
+    if live {
+        reference
+    } else {
+        chain::zero_reference()
+    }
 }
 
 pub fn entry_if(live: bool, entry: Entry) -> Entry
@@ -118,7 +96,7 @@ fn transaction_if(live: bool, transaction: Transaction) -> Transaction
     if live {
         transaction
     } else {
-        zero_transaction()
+        chain::zero_transaction()
     }
 }
 
@@ -142,7 +120,7 @@ pub fn spent_of(b: Block) -> Refs
 {
     let transactions = b.transactions;
     let end = capped(b.count, MOST_TRANSACTIONS) * MOST_INPUTS;
-    let mut refs = [zero_reference(); MOST_REFERENCES];
+    let mut refs = [chain::zero_reference(); MOST_REFERENCES];
     let mut count: usize = 0;
     let mut i = 0;
     while i < end {
@@ -184,7 +162,7 @@ pub fn payments_block(payments: [Payment; MOST_PAYMENTS], paying: usize) -> Bloc
     ensures { λ r. ⌜ r ≡ blockOf (map (λ p. p .transaction) (take paying payments)) ⌝ }
 {
     let count = capped(paying, MOST_PAYMENTS);
-    let mut transactions = [zero_transaction(); MOST_TRANSACTIONS];
+    let mut transactions = [chain::zero_transaction(); MOST_TRANSACTIONS];
     let mut i = 0;
     while i < count {
         let payment = payments[i];
@@ -203,7 +181,7 @@ pub fn slots_of(payments: [Payment; MOST_PAYMENTS], paying: usize) -> Refs
     ensures { λ r. ⌜ r ≡ refsOf (gather (λ p. p .transaction .inputs) (take paying payments)) ⌝ }
 {
     let end = capped(paying, MOST_PAYMENTS) * MOST_INPUTS;
-    let mut refs = [zero_reference(); MOST_REFERENCES];
+    let mut refs = [chain::zero_reference(); MOST_REFERENCES];
     let mut i = 0;
     while i < end {
         let payment = payments[i / MOST_INPUTS];
@@ -221,7 +199,7 @@ pub fn pending_block(payments: [Payment; MOST_PAYMENTS], paying: usize) -> Block
     ensures { λ r. ⌜ r ≡ blockOf (map (λ p. p .transaction) (keep (λ p. marked 0 (p .pending)) (take paying payments))) ⌝ }
 {
     let end = capped(paying, MOST_PAYMENTS);
-    let mut transactions = [zero_transaction(); MOST_TRANSACTIONS];
+    let mut transactions = [chain::zero_transaction(); MOST_TRANSACTIONS];
     let mut count: usize = 0;
     let mut i = 0;
     while i < end {
@@ -266,7 +244,7 @@ pub fn made_refs(made: Made) -> Refs
 {
     let entries = made.entries;
     let count = capped(made.count, MOST_REFERENCES);
-    let mut refs = [zero_reference(); MOST_REFERENCES];
+    let mut refs = [chain::zero_reference(); MOST_REFERENCES];
     let mut i = 0;
     while i < count {
         let entry = entries[i];
@@ -282,7 +260,7 @@ pub fn held_refs(entries: [Held; MOST_REFERENCES], used: usize) -> Refs
     ensures { λ r. ⌜ r ≡ refsOf (map (λ h. h .entry .reference) (take used entries)) ⌝ }
 {
     let end = capped(used, MOST_REFERENCES);
-    let mut known = [zero_reference(); MOST_REFERENCES];
+    let mut known = [chain::zero_reference(); MOST_REFERENCES];
     let mut i = 0;
     while i < end {
         let held = entries[i];

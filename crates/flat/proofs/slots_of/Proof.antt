@@ -20,7 +20,6 @@ use Rattle.flat.proofs.slots_of.Tie as tie
 use Rattle.flat.proofs.slots_of.Reads as reads
 use Rattle.flat.proofs.slots_of.Lts as lts
 use Rattle.flat.proofs.capped.Reads as capped-reads
-use Rattle.flat.proofs.zero_reference.Reads as zero-reference-reads
 
 abbrev placesOfInputs : Payment → List Reference
 placesOfInputs p = p .transaction .inputs

@@ -2,8 +2,8 @@
 use lib.ListN.{replicate}
 use borrow.Author.Needs.{needs}
 use Rattle.rules.specs.Sizes.{mostInputs, mostOutputs}
-use Rattle.feed.proofs.transactions.zero_transaction.Statement.{statement}
-use Rattle.feed.proofs.transactions.zero_transaction.Tie as tie
+use Rattle.chain.proofs.zero_transaction.Statement.{statement}
+use Rattle.chain.proofs.zero_transaction.Tie as tie
 
 zero-number-requires : tie.Need-zero-number-requires
 zero-number-requires c κs = search needs

@@ -2,8 +2,8 @@
 use mathlib.Core.Path.{ap}
 use borrow.Author.Needs.{needs}
 use Rattle.rules.specs.declared.Number.{Number}
-use Rattle.feed.proofs.items.zero_reference.Statement.{statement}
-use Rattle.feed.proofs.items.zero_reference.Tie as tie
+use Rattle.chain.proofs.zero_reference.Statement.{statement}
+use Rattle.chain.proofs.zero_reference.Tie as tie
 
 zero-number-requires : tie.Need-zero-number-requires
 zero-number-requires c κs = search needs
