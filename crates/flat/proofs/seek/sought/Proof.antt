@@ -3,8 +3,8 @@ use mathlib.Core.Path.{sym, subst, _∙_}
 use mathlib.Core.Bool.{Bool}
 use lib.Dec.{T}
 use borrow.Author.Needs.{needs}
-use Rattle.flat.proofs.sought.Statement.{statement}
-use Rattle.flat.proofs.sought.Tie as tie
+use Rattle.flat.proofs.seek.sought.Statement.{statement}
+use Rattle.flat.proofs.seek.sought.Tie as tie
 
 rises-requires : tie.Need-rises-requires
 rises-requires c κs = search needs

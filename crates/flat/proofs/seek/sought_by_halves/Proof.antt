@@ -8,8 +8,8 @@ use Rattle.sets.specs.Fill.{mapped-length, flag-fits}
 use Rattle.flat.specs.Sought.{nothing-there}
 use Rattle.flat.specs.Halving.{Halving, halving-less, halving-start, halving-turn, halving-end}
 use borrow.Author.Needs.{needs}
-use Rattle.flat.proofs.sought_by_halves.Statement.{statement}
-use Rattle.flat.proofs.sought_by_halves.Tie as tie
+use Rattle.flat.proofs.seek.sought_by_halves.Statement.{statement}
+use Rattle.flat.proofs.seek.sought_by_halves.Tie as tie
 
 abbrev Inv-loop : tie.InvT-loop
 Inv-loop these those ends stops at₀ i₀ low₀ high₀ at i low high = Halving these those ends stops at i low high

@@ -11,8 +11,8 @@ use Rattle.rules.specs.Chain.{isOwn}
 use Rattle.rules.specs.declared.Entry.{Entry}
 use Rattle.flat.specs.Flat.{zeroEntry}
 use borrow.Author.Needs.{needs}
-use Rattle.flat.proofs.own_of.Statement.{statement}
-use Rattle.flat.proofs.own_of.Tie as tie
+use Rattle.flat.proofs.lists.own_of.Statement.{statement}
+use Rattle.flat.proofs.lists.own_of.Tie as tie
 
 abbrev Inv-loop : tie.InvT-loop
 Inv-loop own entries end kept₀ count₀ i₀ kept count i =

@@ -7,8 +7,8 @@ use Rattle.chain.specs.View.{zeroReference}
 use Rattle.sets.specs.Fill.{filled, take-done, mapped-length, map-turn, map-count}
 use Rattle.rules.specs.declared.Entry.{Entry}
 use borrow.Author.Needs.{needs}
-use Rattle.flat.proofs.made_refs.Statement.{statement}
-use Rattle.flat.proofs.made_refs.Tie as tie
+use Rattle.flat.proofs.lists.made_refs.Statement.{statement}
+use Rattle.flat.proofs.lists.made_refs.Tie as tie
 
 abbrev Inv-loop : tie.InvT-loop
 Inv-loop entries count refs₀ i₀ refs i =

@@ -7,8 +7,8 @@ use Rattle.chain.specs.View.{zeroTransaction}
 use Rattle.sets.specs.Fill.{filled, take-done, map-turn, map-count}
 use Rattle.pool.specs.declared.Payment.{Payment}
 use borrow.Author.Needs.{needs}
-use Rattle.flat.proofs.payments_block.Statement.{statement}
-use Rattle.flat.proofs.payments_block.Tie as tie
+use Rattle.flat.proofs.blocks.payments_block.Statement.{statement}
+use Rattle.flat.proofs.blocks.payments_block.Tie as tie
 
 abbrev Inv-loop : tie.InvT-loop
 Inv-loop paying payments count transactions₀ i₀ transactions i =

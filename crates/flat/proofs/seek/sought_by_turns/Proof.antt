@@ -7,8 +7,8 @@ use lib.ListN.{length}
 use Rattle.sets.specs.Fill.{mapped-length, flag-fits}
 use Rattle.flat.specs.Sought.{Seeking, turn-less, seeking-start, seeking-turn, seeking-end, nothing-there}
 use borrow.Author.Needs.{needs}
-use Rattle.flat.proofs.sought_by_turns.Statement.{statement}
-use Rattle.flat.proofs.sought_by_turns.Tie as tie
+use Rattle.flat.proofs.seek.sought_by_turns.Statement.{statement}
+use Rattle.flat.proofs.seek.sought_by_turns.Tie as tie
 
 abbrev Inv-loop : tie.InvT-loop
 Inv-loop these those ends stops at₀ i₀ j₀ at i j = Seeking these those ends stops at i j

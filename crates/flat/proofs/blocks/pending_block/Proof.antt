@@ -11,8 +11,8 @@ use Rattle.pool.specs.declared.Payment.{Payment}
 use Rattle.chain.specs.View.{zeroNumber, zeroTransaction}
 use Rattle.chain.specs.declared.Transaction.{Transaction}
 use borrow.Author.Needs.{needs}
-use Rattle.flat.proofs.pending_block.Statement.{statement}
-use Rattle.flat.proofs.pending_block.Tie as tie
+use Rattle.flat.proofs.blocks.pending_block.Statement.{statement}
+use Rattle.flat.proofs.blocks.pending_block.Tie as tie
 
 -- the transactions of the payments that are pending in the present state
 abbrev pending : List Payment → List Transaction

@@ -15,10 +15,10 @@ use Rattle.pool.specs.declared.Payment.{Payment}
 use Rattle.flat.specs.Slots.{pastEnd}
 use Rattle.flat.specs.Inner.{each-in}
 use borrow.Author.Needs.{needs}
-use Rattle.flat.proofs.slots_of.Statement.{statement}
-use Rattle.flat.proofs.slots_of.Tie as tie
-use Rattle.flat.proofs.slots_of.Reads as reads
-use Rattle.flat.proofs.slots_of.Lts as lts
+use Rattle.flat.proofs.blocks.slots_of.Statement.{statement}
+use Rattle.flat.proofs.blocks.slots_of.Tie as tie
+use Rattle.flat.proofs.blocks.slots_of.Reads as reads
+use Rattle.flat.proofs.blocks.slots_of.Lts as lts
 use Rattle.flat.proofs.capped.Reads as capped-reads
 
 abbrev placesOfInputs : Payment → List Reference

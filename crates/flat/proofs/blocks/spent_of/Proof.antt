@@ -13,8 +13,8 @@ use Rattle.chain.specs.declared.Transaction.{Transaction}
 use Rattle.flat.specs.Slots.{inputsOf, pastEnd}
 use Rattle.flat.specs.Inner.{each-at}
 use borrow.Author.Needs.{needs}
-use Rattle.flat.proofs.spent_of.Statement.{statement}
-use Rattle.flat.proofs.spent_of.Tie as tie
+use Rattle.flat.proofs.blocks.spent_of.Statement.{statement}
+use Rattle.flat.proofs.blocks.spent_of.Tie as tie
 
 abbrev Inv-loop : tie.InvT-loop
 Inv-loop transactions end refs₀ count₀ i₀ refs count i =

@@ -15,8 +15,8 @@ use Rattle.flat.specs.Slots.{entriesOf, pastEnd}
 use Rattle.flat.specs.Inner.{each-at}
 use Rattle.flat.specs.Flat.{zeroEntry}
 use borrow.Author.Needs.{needs}
-use Rattle.flat.proofs.made_of.Statement.{statement}
-use Rattle.flat.proofs.made_of.Tie as tie
+use Rattle.flat.proofs.blocks.made_of.Statement.{statement}
+use Rattle.flat.proofs.blocks.made_of.Tie as tie
 
 abbrev Inv-loop : tie.InvT-loop
 Inv-loop transactions end entries₀ count₀ i₀ entries count i =

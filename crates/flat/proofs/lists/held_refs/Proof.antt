@@ -7,8 +7,8 @@ use Rattle.chain.specs.View.{zeroReference}
 use Rattle.sets.specs.Fill.{filled, take-done, map-turn, map-count}
 use Rattle.pool.specs.declared.Held.{Held}
 use borrow.Author.Needs.{needs}
-use Rattle.flat.proofs.held_refs.Statement.{statement}
-use Rattle.flat.proofs.held_refs.Tie as tie
+use Rattle.flat.proofs.lists.held_refs.Statement.{statement}
+use Rattle.flat.proofs.lists.held_refs.Tie as tie
 
 abbrev Inv-loop : tie.InvT-loop
 Inv-loop used entries end known₀ i₀ known i =

@@ -8,8 +8,8 @@ use Rattle.sets.specs.Walks.{ascending-start, ascending-step, ascending-end}
 use Rattle.sets.specs.Fill.{mapped-length, take-capped}
 use Rattle.rules.specs.Chain.{beforeReference}
 use borrow.Author.Needs.{needs}
-use Rattle.flat.proofs.rises.Statement.{statement}
-use Rattle.flat.proofs.rises.Tie as tie
+use Rattle.flat.proofs.seek.rises.Statement.{statement}
+use Rattle.flat.proofs.seek.rises.Tie as tie
 
 abbrev Inv-loop : tie.InvT-loop
 Inv-loop those stops ok₀ i₀ ok i =
