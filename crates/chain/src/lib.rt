@@ -3,7 +3,7 @@ ghost use mathlib.Core.Path.{_≡_};
 ghost use Prim.Native.Nat.{_≤_};
 ghost use lib.Dec.{leb};
 ghost use lib.ListN.{take, drop};
-ghost use Rattle.chain.specs.View.{beforeStruct, goodBlock, goodTransaction, noNumber, noOutput, noReference, noTransaction, sameStruct, zeroNumber};
+ghost use Rattle.chain.specs.View.{beforeStruct, goodBlock, goodTransaction, noNumber, noOutput, noReference, noTransaction, sameStruct, zeroNumber, zeroOutput, zeroReference, zeroTransaction};
 ghost use Rattle.rules.specs.Chain.{beforeNumber, beforeOutput, beforeReference, sameNumber, sameOutput, sameReference, shapedOwn};
 ghost use Rattle.rules.specs.Sizes.{largestAmount, mostInputs, mostOutputs, mostTransactions};
 ghost use Rattle.sets.specs.Sets.{all, ascending, sameList};
@@ -51,11 +51,45 @@ pub fn no_number(a: Number) -> bool
     a.serial == 0
 }
 
-// The number that an unused place holds.
+// What an unused place holds: a number, a reference, an output, a transaction.
 pub fn zero_number() -> Number
     ensures { λ r. ⌜ r ≡ zeroNumber ⌝ }
 {
     Number { serial: 0 }
+}
+
+pub fn zero_reference() -> Reference
+    ensures { λ r. ⌜ r ≡ zeroReference ⌝ }
+{
+    let number = zero_number();
+    Reference { number, index: 0 }
+}
+
+pub fn zero_output() -> Output
+    ensures { λ r. ⌜ r ≡ zeroOutput ⌝ }
+{
+    Output {
+        index: 0,
+        address: 0,
+        amount: 0,
+    }
+}
+
+pub fn zero_transaction() -> Transaction
+    ensures { λ r. ⌜ r ≡ zeroTransaction ⌝ }
+{
+    let number = zero_number();
+    let reference = zero_reference();
+    let output = zero_output();
+    let inputs = [reference; MOST_INPUTS];
+    let outputs = [output; MOST_OUTPUTS];
+    Transaction {
+        number,
+        inputs,
+        takes: 0,
+        outputs,
+        makes: 0,
+    }
 }
 
 pub fn same_reference(a: Reference, b: Reference) -> bool

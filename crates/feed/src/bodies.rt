@@ -15,10 +15,10 @@ use crate::transactions::TransactionRead;
 use crate::transactions::no_transaction;
 use crate::transactions::read_transaction;
 use crate::transactions::read_transactions;
-use crate::transactions::zero_transaction;
 use chain::Block;
 use chain::Transaction;
 use chain::zero_number;
+use chain::zero_transaction;
 use rules::MOST_OWN;
 use rules::MOST_TRANSACTIONS;
 

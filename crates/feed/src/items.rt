@@ -2,7 +2,6 @@
 ghost use mathlib.Core.Path.{_≡_};
 ghost use mathlib.Core.Option.{none};
 ghost use Prim.Native.Nat.{_≤_};
-ghost use Rattle.chain.specs.View.{zeroReference, zeroOutput};
 ghost use Rattle.rules.specs.Sizes.{mostInputs, mostOutputs, mostOwn};
 ghost use Rattle.format.specs.Fields.{fault, items};
 ghost use Rattle.format.specs.Bodies.{readAddress, readInput, readOutput};
@@ -18,7 +17,8 @@ use crate::fields::number;
 use crate::fields::number_of;
 use crate::fields::output_index;
 use crate::fields::up_to;
-use chain::zero_number;
+use chain::zero_output;
+use chain::zero_reference;
 use rules::LARGEST_AMOUNT;
 use rules::MOST_INPUTS;
 use rules::MOST_OUTPUTS;
@@ -55,25 +55,6 @@ pub struct OutputsRead {
 pub struct AddressesRead {
     pub answer: Answer,
     pub addresses: [u32; MOST_OWN],
-}
-
-// What an unused place of the inputs holds.
-pub(crate) fn zero_reference() -> Reference
-    ensures { λ r. ⌜ r ≡ zeroReference ⌝ }
-{
-    let number = zero_number();
-    Reference { number, index: 0 }
-}
-
-// What an unused place of the outputs holds.
-pub(crate) fn zero_output() -> Output
-    ensures { λ r. ⌜ r ≡ zeroOutput ⌝ }
-{
-    Output {
-        index: 0,
-        address: 0,
-        amount: 0,
-    }
 }
 
 // A fault in an input.

@@ -2,7 +2,6 @@
 ghost use mathlib.Core.Path.{_≡_};
 ghost use mathlib.Core.Option.{none};
 ghost use Prim.Native.Nat.{_≤_};
-ghost use Rattle.chain.specs.View.{zeroTransaction};
 ghost use Rattle.rules.specs.Sizes.{mostInputs, mostOutputs, mostTransactions};
 ghost use Rattle.format.specs.Fields.{fault, items};
 ghost use Rattle.format.specs.Bodies.{readTransaction};
@@ -17,10 +16,9 @@ use crate::fields::up_to;
 use crate::items::Answer;
 use crate::items::read_inputs;
 use crate::items::read_outputs;
-use crate::items::zero_output;
-use crate::items::zero_reference;
 use chain::Transaction;
 use chain::zero_number;
+use chain::zero_transaction;
 use rules::MOST_INPUTS;
 use rules::MOST_OUTPUTS;
 use rules::MOST_TRANSACTIONS;
@@ -34,24 +32,6 @@ pub struct TransactionRead {
 pub struct TransactionsRead {
     pub answer: Answer,
     pub transactions: [Transaction; MOST_TRANSACTIONS],
-}
-
-// What an unused place of a block holds.
-pub(crate) fn zero_transaction() -> Transaction
-    ensures { λ r. ⌜ r ≡ zeroTransaction ⌝ }
-{
-    let number = zero_number();
-    let reference = zero_reference();
-    let output = zero_output();
-    let inputs = [reference; MOST_INPUTS];
-    let outputs = [output; MOST_OUTPUTS];
-    Transaction {
-        number,
-        inputs,
-        takes: 0,
-        outputs,
-        makes: 0,
-    }
 }
 
 // A fault in a transaction.

@@ -43,7 +43,7 @@ fn no_input() -> Input
     ensures { λ r. ⌜ r ≡ noInput ⌝ }
 {
     Input {
-        reference: flat::zero_reference(),
+        reference: chain::zero_reference(),
         amount: 0,
         utxo: false,
         expected: false,

@@ -14,14 +14,14 @@ const NOT_THE_SAME: u32 = 99;
 
 fn empty_block() -> Block {
     Block {
-        transactions: [flat::zero_transaction(); MOST_TRANSACTIONS],
+        transactions: [chain::zero_transaction(); MOST_TRANSACTIONS],
         count: 0,
     }
 }
 
 // A well shaped transaction: one input, no output.
 fn some_payment() -> Transaction {
-    let none = flat::zero_transaction();
+    let none = chain::zero_transaction();
     let mut inputs = none.inputs;
     let outputs = none.outputs;
     let input = Reference {

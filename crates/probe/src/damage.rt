@@ -120,7 +120,7 @@ fn entry_behind(p: Pool) -> Pool {
 
 fn payment_behind(p: Pool) -> Pool {
     let mut payments = p.payments;
-    let none = flat::zero_transaction();
+    let none = chain::zero_transaction();
     let payment = Payment {
         transaction: none,
         pending: 1,

@@ -17,7 +17,7 @@ pub(crate) fn reference(serial: u64, index: u16) -> Reference {
 
 // A transaction with no input and no output yet.
 pub(crate) fn bare(serial: u64) -> Transaction {
-    let none = flat::zero_transaction();
+    let none = chain::zero_transaction();
     let inputs = none.inputs;
     let outputs = none.outputs;
     Transaction {
@@ -96,7 +96,7 @@ pub(crate) fn sending(
 // A block with no transaction, and one with a transaction more behind its last; as it was where it has sixteen.
 pub(crate) fn empty_block() -> Block {
     Block {
-        transactions: [flat::zero_transaction(); MOST_TRANSACTIONS],
+        transactions: [chain::zero_transaction(); MOST_TRANSACTIONS],
         count: 0,
     }
 }

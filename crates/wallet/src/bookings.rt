@@ -68,7 +68,7 @@ pub(crate) fn opened(own: &[u32]) -> Pool
         expected: 0,
     };
     let payment = Payment {
-        transaction: flat::zero_transaction(),
+        transaction: chain::zero_transaction(),
         pending: 0,
     };
     Pool {

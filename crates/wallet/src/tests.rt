@@ -67,7 +67,7 @@ pub(crate) fn entries_have(entries: [Held; MOST_REFERENCES], used: usize, number
 pub(crate) fn alone(t: Transaction) -> Block
     ensures { λ r. ⌜ r ≡ blockOf (t ∷ []) ⌝ }
 {
-    let mut transactions = [flat::zero_transaction(); MOST_TRANSACTIONS];
+    let mut transactions = [chain::zero_transaction(); MOST_TRANSACTIONS];
     transactions[0] = t;
     Block {
         transactions,

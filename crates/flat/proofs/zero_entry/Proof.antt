@@ -3,11 +3,9 @@ use borrow.Author.Needs.{needs}
 use Rattle.flat.proofs.zero_entry.Statement.{statement}
 use Rattle.flat.proofs.zero_entry.Tie as tie
 
--- src/lib.rt:80:20
 zero-reference-requires : tie.Need-zero-reference-requires
 zero-reference-requires c κs = search needs
 
--- src/lib.rt:76:1
 returns : tie.Need-returns
 returns c = cc
 

@@ -1,0 +1,20 @@
+-- A payment after a rollback is what the rule makes of it.
+use borrow.Author.Needs.{needs}
+use Rattle.booking.proofs.marks.payment_back.Statement.{statement}
+use Rattle.booking.proofs.marks.payment_back.Tie as tie
+
+mark-present-requires : tie.Need-mark-present-requires
+mark-present-requires c κs = search needs
+
+mark-below-requires : tie.Need-mark-below-requires
+mark-below-requires c κs = search needs
+
+lower-requires : tie.Need-lower-requires
+lower-requires c κs = search needs
+
+returns : tie.Need-returns
+returns c = cc
+
+pub payment-back-spec : {M : Type 1} → statement M
+payment-back-spec =
+    tie.close (tie.spec mark-present-requires mark-below-requires lower-requires returns)
