@@ -1,8 +1,8 @@
 -- What the recorder's calls promise: the rules' answers, read off the structs, for every struct that can be handed in.
 use Prim.Native.Nat.{ℕ}
 use mathlib.Core.Path.{_≡_}
-use mathlib.Core.Bool.{Bool, not, cond}
-use mathlib.Core.List.{List, [], map}
+use mathlib.Core.Bool.{Bool, not}
+use mathlib.Core.List.{List, map}
 use lib.Dec.{T}
 use lib.IntN.{pos}
 use Rattle.sets.specs.Sets.{keep}
@@ -19,7 +19,7 @@ use Rattle.wallet.specs.declared.Step.{Step}
 use Rattle.wallet.specs.declared.Amount.{Amount}
 use Rattle.wallet.specs.declared.Listed.{Listed}
 use Rattle.wallet.specs.declared.Pending.{Pending}
-use Rattle.wallet.specs.Told.{toldList}
+use Rattle.wallet.specs.Told.{toldAmount, toldList, toldPending}
 
 -- the rules' wallet that a wallet struct holds, and whether the struct is sound
 abbrev pub viewed : Wallet → States.Wallet
@@ -48,13 +48,13 @@ pub record Stepped (w : Wallet) (laid : Bool) (rule : Steps.Step) (r : Step) : T
 
 -- A query: 9 and zeros where the wallet is not sound.
 abbrev pub asked : Wallet → ℕ → Amount
-asked w n = cond (isSound w) (record { answer = 0; amount = n }) (record { answer = 9; amount = 0 })
+asked w n = toldAmount (isSound w) n
 
 abbrev pub listed : Wallet → List Entry → Listed
 listed w l = toldList (isSound w) (madeOf l)
 
 abbrev pub pendingListed : Wallet → List Transaction → Pending
-pendingListed w l = cond (isSound w) (record { answer = 0; list = blockOf l }) (record { answer = 9; list = blockOf [] })
+pendingListed w l = toldPending (isSound w) (blockOf l)
 
 -- the payments that are pending in the present state, as structs
 abbrev pub pendingStructs : Wallet → List Transaction

@@ -11,3 +11,4 @@ pub mod Answers
 pub mod Found
 pub mod StepLaws
 pub mod StepsBooked
+pub mod HeldStates

@@ -3,7 +3,8 @@ use Prim.Native.Nat.{ℕ, _+_, _^_, _<_}
 use native.Mathlib.Omega.{arith}
 use mathlib.Core.Path.{_≡_, ap, _∙_}
 use lib.Dec.{T}
-use lib.ListN.{take}
+use lib.ListN.{length, take, length-take}
+use Rattle.rules.specs.Sizes.{mostReferences}
 use Rattle.rules.specs.Balances.{available, availableBalance, totalBalance}
 use Rattle.soundness.specs.Bounds.{available-bound}
 use Rattle.pool.specs.declared.Pool.{Pool}
@@ -13,7 +14,7 @@ use Rattle.pool.specs.LayoutLaws.{good-view}
 use Rattle.flat.specs.declared.Made.{Made}
 use Rattle.flat.specs.Flat.{madeOf, madeIn}
 use Rattle.balance.specs.Worth.{worthWithin}
-use Rattle.balance.specs.WorthLaws.{worth-flat, changeOf, available-worth, total-worth, sums-fit}
+use Rattle.balance.specs.WorthLaws.{worth-flat, worth-most, changeOf, available-worth, total-worth}
 
 -- the sum over the available list is the available balance
 pub free-worth :
@@ -28,6 +29,23 @@ pub free-small :
     n < 2 ^ 63
 free-small w list n g e f = omega (arith, free-worth w list n g e f, available-bound (view w) (good-view w g))
 
+-- two sums over lists laid flat fit 64 bits together, whatever the lists
+pub sums-small :
+    (free change : Made) {m n : ℕ} → length (free .entries) ≡ mostReferences → m ≡ worthWithin (madeIn free) →
+    length (change .entries) ≡ mostReferences → n ≡ worthWithin (madeIn change) → m + n < 2 ^ 64
+sums-small free change e f g h =
+    omega (
+      arith,
+      e,
+      f,
+      g,
+      h,
+      worth-most (madeIn free),
+      worth-most (madeIn change),
+      length-take (free .count) (free .entries),
+      length-take (change .count) (change .entries),
+    )
+
 module _ (w : Pool) (free change : Made) (m n : ℕ) (g : T (good w)) (e : free ≡ madeOf (available (view w .present)))
     (f : m ≡ worthWithin (madeIn free)) (h : change ≡ madeOf (changeOf w)) (k : n ≡ worthWithin (madeIn change)) where
   free-is : m ≡ worthWithin (available (view w .present))
@@ -39,7 +57,3 @@ module _ (w : Pool) (free change : Made) (m n : ℕ) (g : T (good w)) (e : free 
   -- the sums over the available list and over the change come to the total balance
   pub total-is : m + n ≡ totalBalance (take (w .owns) (w .own)) (view w .present)
   total-is = omega (arith, free-is, change-is, total-worth w g)
-
-  -- and fit 64 bits
-  pub total-small : m + n < 2 ^ 64
-  total-small = omega (arith, free-is, change-is, sums-fit w g .2)

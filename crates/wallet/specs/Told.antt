@@ -1,14 +1,36 @@
--- A list as a query hands it back, from what its parts were worked out to be.
-use mathlib.Core.Path.{_≡_, _∙_}
-use mathlib.Core.Bool.{Bool, cond}
+-- What a query hands back, from what its parts were worked out to be: 9 and nothing where the wallet is not sound.
+use Prim.Native.Nat.{ℕ}
+use mathlib.Core.Path.{_≡_, refl, ap, _∙_}
+use mathlib.Core.Bool.{Bool, true, false, cond}
 use mathlib.Core.List.{[]}
+use lib.Dec.{T}
+use Rattle.chain.specs.declared.Block.{Block}
 use Rattle.flat.specs.declared.Made.{Made}
-use Rattle.flat.specs.Flat.{madeOf}
+use Rattle.flat.specs.Flat.{madeOf, blockOf}
+use Rattle.wallet.specs.declared.Amount.{Amount}
 use Rattle.wallet.specs.declared.Listed.{Listed}
+use Rattle.wallet.specs.declared.Pending.{Pending}
 
--- 9 and the empty list where a test fails
+abbrev pub toldAmount : Bool → ℕ → Amount
+toldAmount sound n = cond sound (record { answer = 0; amount = n }) (record { answer = 9; amount = 0 })
+
 abbrev pub toldList : Bool → Made → Listed
 toldList sound list = cond sound (record { answer = 0; list = list }) (record { answer = 9; list = madeOf [] })
 
+abbrev pub toldPending : Bool → Block → Pending
+toldPending sound list = cond sound (record { answer = 0; list = list }) (record { answer = 9; list = blockOf [] })
+
+-- a list that is told is the one that was worked out, by the test that was asked
 pub told-one : {r : Listed} {flag test : Bool} {list other : Made} → r ≡ toldList flag list → flag ≡ test → list ≡ other → r ≡ toldList test other
 told-one e f g = e ∙ (λ i. toldList (f i) (g i))
+
+pub told-pending-one : {r : Pending} {flag test : Bool} {list other : Block} → r ≡ toldPending flag list → flag ≡ test → list ≡ other → r ≡ toldPending test other
+told-pending-one e f g = e ∙ (λ i. toldPending (f i) (g i))
+
+same-where : (test : Bool) (n m : ℕ) → (T test → n ≡ m) → toldAmount test n ≡ toldAmount test m
+same-where true n m f = ap (toldAmount true) (f tt)
+same-where false n m f = refl
+
+-- an amount need be the right one only where the test holds
+pub told-amount-one : {r : Amount} {flag : Bool} (test : Bool) {n m : ℕ} → r ≡ toldAmount flag n → flag ≡ test → (T test → n ≡ m) → r ≡ toldAmount test m
+told-amount-one test {n} {m} e f g = e ∙ ap (λ (b : Bool). toldAmount b n) f ∙ same-where test n m g

@@ -2,16 +2,18 @@
 // as the rules say.
 ghost use mathlib.Core.Bool.{true};
 ghost use mathlib.Core.Path.{_≡_};
-ghost use Prim.Native.Nat.{suc};
+ghost use lib.ListN.{length};
 ghost use Rattle.chain.specs.View as ChainView;
 ghost use Rattle.chain.specs.View.{laidOutBlock, viewBlock, viewTransaction};
 ghost use Rattle.rules.specs.Balances.{available, availableBalance, totalBalance};
+ghost use Rattle.rules.specs.States.{states};
 ghost use Rattle.rules.specs.Steps as Steps;
 ghost use Rattle.wallet.specs.Contract.{Reads, Stepped, asked, listed, pendingListed, pendingStructs, viewed};
 use chain::Block;
 use chain::Transaction;
 use flat::Made;
 use pool::Pool;
+use rules::MOST_STATES;
 
 mod answers;
 mod bookings;
@@ -147,16 +149,8 @@ impl Wallet {
     {
         let pool = self.pool;
         let sound = audit::good_pool(pool);
-        if !sound {
-            return Amount {
-                answer: 9,
-                amount: 0,
-            };
-        }
-        Amount {
-            answer: 0,
-            amount: balance::worth_of(balance::available_of(pool)),
-        }
+        let free = balance::worth_of(balance::available_of(pool));
+        queries::told_amount(sound, free)
     }
 
     // The total balance.
@@ -165,37 +159,21 @@ impl Wallet {
     {
         let pool = self.pool;
         let sound = audit::good_pool(pool);
-        if !sound {
-            return Amount {
-                answer: 9,
-                amount: 0,
-            };
-        }
         let free = balance::worth_of(balance::available_of(pool));
         let change = balance::worth_of(balance::change_of(pool));
-        Amount {
-            answer: 0,
-            amount: free + change,
-        }
+        let both = free + change;
+        queries::told_amount(sound, both)
     }
 
     // How many states are held.
     pub fn held(self) -> Amount
-        ensures { λ r. ⌜ r ≡ asked self (suc (self .pool .below)) ⌝ }
+        ensures { λ r. ⌜ r ≡ asked self (length (states (viewed self))) ⌝ }
     {
         let pool = self.pool;
         let sound = audit::good_pool(pool);
-        if !sound {
-            return Amount {
-                answer: 9,
-                amount: 0,
-            };
-        }
-        let below = pool.below;
-        Amount {
-            answer: 0,
-            amount: (below + 1) as u64,
-        }
+        let below = flat::capped(pool.below, MOST_STATES);
+        let held = below + 1;
+        queries::told_amount(sound, held as u64)
     }
 
     // The present sets: unspent, expected and available outputs, and pending payments.
@@ -232,15 +210,7 @@ impl Wallet {
         let pool = self.pool;
         let payments = pool.payments;
         let sound = audit::good_pool(pool);
-        if !sound {
-            return Pending {
-                answer: 9,
-                list: flat::pending_block(payments, 0),
-            };
-        }
-        Pending {
-            answer: 0,
-            list: flat::pending_block(payments, pool.paying),
-        }
+        let pending = flat::pending_block(payments, pool.paying);
+        queries::told_pending(sound, pending)
     }
 }

@@ -1,10 +1,8 @@
 -- How many states are held: one more than lie below, where the wallet is sound.
-use mathlib.Core.Path.{refl}
-use native.Mathlib.Numerals.{add-one}
-use native.Mathlib.Omega.{arith}
 use Rattle.pool.specs.Good.{good}
-use Rattle.pool.specs.LayoutLaws.{good-layout}
-use Rattle.wallet.specs.Flags.{flag-holds, picks-first, picks-second}
+use native.Mathlib.Omega.{arith}
+use Rattle.wallet.specs.Told.{told-amount-one}
+use Rattle.wallet.specs.HeldStates.{held-states}
 use borrow.Author.Needs.{needs}
 use Rattle.wallet.proofs.Wallet.held.Statement.{statement}
 use Rattle.wallet.proofs.Wallet.held.Tie as tie
@@ -12,19 +10,21 @@ use Rattle.wallet.proofs.Wallet.held.Tie as tie
 good-pool-requires : tie.Need-good-pool-requires
 good-pool-requires c κs = search needs
 
+capped-requires : tie.Need-capped-requires
+capped-requires c κs = search needs
+
+add-held : tie.Need-add-held
+add-held c = record { fits = omega (arith, c .capped .ensures) }
+
+told-amount-requires : tie.Need-told-amount-requires
+told-amount-requires c κs = search needs
+
 returns : tie.Need-returns
-returns c = picks-second (good (c .before .before .before .args .self .pool)) _ _ _ _ (c .before .good-pool .ensures) (c .if1 .taken) refl
-
-add-t6 : tie.Need-add-t6
-add-t6 c =
-    let pool = c .before .before .before .args .self .pool in
-    let few = good-layout pool (flag-holds (good pool) _ (c .before .good-pool .ensures) (c .if1 .left)) .few-below in
-    record { fits = omega arith }
-
-returns-2 : tie.Need-returns-2
-returns-2 c =
-    let pool = c .before .before .before .args .self .pool in
-    picks-first (good pool) _ _ _ _ (c .before .good-pool .ensures) (c .if1 .left) (λ i. record { answer = 0; amount = add-one (pool .below) i })
+returns c =
+    let pool = c .before .before .before .before .args .self .pool in
+    told-amount-one (good pool) (c .told-amount .ensures) (c .before .before .good-pool .ensures)
+    (λ g. held-states pool _ g (c .before .capped .ensures))
 
 pub held-spec : {M : Type 1} → statement M
-held-spec = tie.close (tie.spec good-pool-requires returns add-t6 returns-2)
+held-spec =
+    tie.close (tie.spec good-pool-requires capped-requires add-held told-amount-requires returns)

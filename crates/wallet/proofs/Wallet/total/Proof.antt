@@ -1,17 +1,17 @@
 -- The total balance, where the wallet is sound: the available balance and the change.
-use mathlib.Core.Path.{refl}
+use mathlib.Core.Path.{_≡_}
+use lib.ListN.{length}
+use Rattle.sets.specs.Fill.{mapped-length}
+use Rattle.rules.specs.Sizes.{mostReferences}
 use Rattle.pool.specs.Good.{good}
-use Rattle.wallet.specs.Flags.{flag-holds, picks-first, picks-second}
-use Rattle.wallet.specs.Sums.{total-is, total-small}
+use Rattle.wallet.specs.Sums.{sums-small, total-is}
+use Rattle.wallet.specs.Told.{told-amount-one}
 use borrow.Author.Needs.{needs}
 use Rattle.wallet.proofs.Wallet.total.Statement.{statement}
 use Rattle.wallet.proofs.Wallet.total.Tie as tie
 
 good-pool-requires : tie.Need-good-pool-requires
 good-pool-requires c κs = search needs
-
-returns : tie.Need-returns
-returns c = picks-second (good (c .before .before .before .args .self .pool)) _ _ _ _ (c .before .good-pool .ensures) (c .if1 .taken) refl
 
 available-of-requires : tie.Need-available-of-requires
 available-of-requires c κs = search needs
@@ -25,29 +25,33 @@ change-of-requires c κs = search needs
 worth-of-requires-2 : tie.Need-worth-of-requires-2
 worth-of-requires-2 c κs = search needs
 
-add-t8 : tie.Need-add-t8
-add-t8 c =
-    let pool = c .before .before .before .before .before .before .before .args .self .pool in
-    let sound = flag-holds (good pool) _ (c .before .before .before .before .before .good-pool .ensures) (c .before .before .before .before .if1 .left) in
-    record { fits = total-small pool _ _ _ _ sound (c .before .before .before .available-of .ensures) (c .before .before .worth-of .ensures) (c .before .change-of .ensures) (c .worth-of2 .ensures) }
+add-both : tie.Need-add-both
+add-both c =
+    let free = c .before .before .before .available-of .result in
+    let change = c .before .change-of .result in
+    let these : length (free .entries) ≡ mostReferences = search (needs, mapped-length) in
+    let those : length (change .entries) ≡ mostReferences = search (needs, mapped-length) in
+    record { fits = sums-small free change these (c .before .before .worth-of .ensures) those (c .worth-of2 .ensures) }
 
-returns-2 : tie.Need-returns-2
-returns-2 c =
+told-amount-requires : tie.Need-told-amount-requires
+told-amount-requires c κs = search needs
+
+returns : tie.Need-returns
+returns c =
     let pool = c .before .before .before .before .before .before .before .args .self .pool in
-    let asked = c .before .before .before .before .before .good-pool .ensures in
-    let passed = c .before .before .before .before .if1 .left in
-    let sum = total-is pool _ _ _ _ (flag-holds (good pool) _ asked passed) (c .before .before .before .available-of .ensures) (c .before .before .worth-of .ensures) (c .before .change-of .ensures) (c .worth-of2 .ensures) in
-    picks-first (good pool) _ _ _ _ asked passed (λ i. record { answer = 0; amount = sum i })
+    told-amount-one (good pool) (c .told-amount .ensures) (c .before .before .before .before .before .good-pool .ensures)
+    (λ g.
+    total-is pool _ _ _ _ g (c .before .before .before .before .available-of .ensures) (c .before .before .before .worth-of .ensures) (c .before .before .change-of .ensures) (c .before .worth-of2 .ensures))
 
 pub total-spec : {M : Type 1} → statement M
 total-spec =
     tie.close
     (tie.spec
     good-pool-requires
-    returns
     available-of-requires
     worth-of-requires
     change-of-requires
     worth-of-requires-2
-    add-t8
-    returns-2)
+    add-both
+    told-amount-requires
+    returns)
