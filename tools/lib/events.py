@@ -27,42 +27,56 @@ Faulty feeds are written on purpose with two further lines:
 `list` shows a faulty body as such bytes, with the place and the reason of its fault. A feed that is refused as a whole
 has no list: one line says why.
 
+A list has at most 4,194,304 bytes.
+
 Exit status: 0, or 1 after an error, which is one line on standard error; 2 for a wrong call.
 """
 import os
 import sys
 
+from calls import complain, drop_output
 from feeds import list_of_feed
 from layout import MOST_BYTES, Refused
 from lists import feed_of_list
 
+# a list of the longest feed takes a twentieth of this; without a limit one would read /dev/zero for ever
+MOST_LIST = 4_194_304
+USAGE = 'usage: tools/events feed LIST [FEED] | tools/events list FEED [LIST] | tools/events help'
 
-def read(name, most=-1):
+
+def read(name, called, most):
+    """A file's bytes, at most one more than these."""
     try:
-        if name == '-':
-            return sys.stdin.buffer.read(most)
-        with open(name, 'rb') as file:
-            return file.read(most)
-    except (OSError, AttributeError) as error:
-        raise Refused(f'{name}: cannot be read: {getattr(error, "strerror", None) or "it is closed"}') from None
+        if name != '-':
+            with open(name, 'rb') as file:
+                return file.read(most + 1)
+        if sys.stdin is None:
+            raise Refused(f'{called}: cannot be read: it is closed')
+        return sys.stdin.buffer.read(most + 1)
+    except OSError as error:
+        raise Refused(f'{called}: cannot be read: {error.strerror}') from None
 
 
 def write(name, data):
+    called = 'standard output' if name == '-' else name
     try:
-        if name == '-':
-            sys.stdout.buffer.write(data)
-            sys.stdout.buffer.flush()
-        else:
+        if name != '-':
             with open(name, 'wb') as file:
                 file.write(data)
-    except (OSError, AttributeError) as error:
-        if name == '-' and sys.stdout is not None:
-            # nothing more can be written, and Python would try once more at its end
-            os.dup2(os.open(os.devnull, os.O_WRONLY), sys.stdout.fileno())
-        raise Refused(f'{name}: cannot be written: {getattr(error, "strerror", None) or "it is closed"}') from None
+            return
+        if sys.stdout is None:
+            raise Refused(f'{called}: cannot be written: it is closed')
+        sys.stdout.buffer.write(data)
+        sys.stdout.buffer.flush()
+    except OSError as error:
+        if name == '-':
+            drop_output()
+        raise Refused(f'{called}: cannot be written: {error.strerror}') from None
 
 
 def text_of(data, name):
+    if len(data) > MOST_LIST:
+        raise Refused(f'{name}: expected a list of at most {MOST_LIST:,} bytes, found more')
     try:
         return data.decode('utf-8-sig')
     except UnicodeDecodeError as error:
@@ -70,22 +84,26 @@ def text_of(data, name):
         raise Refused(f'{name}:{line}: expected text, found the byte {data[error.start]:02x}') from None
 
 
+def turn(what, source, target):
+    called = 'standard input' if source == '-' else source
+    if source != '-' and os.path.exists(source) and os.path.exists(target) and os.path.samefile(source, target):
+        raise Refused(f'{target}: cannot be written: it is what is read')
+    if what == 'feed':
+        write(target, feed_of_list(text_of(read(source, called, MOST_LIST), called), called))
+    else:
+        write(target, list_of_feed(read(source, called, MOST_BYTES), called).encode())
+
+
 def main(words):
-    if len(words) == 1 and words[0] in ('help', '-h', '--help'):
-        print(__doc__.strip())
-        return 0
-    if len(words) not in (2, 3) or words[0] not in ('feed', 'list'):
-        print('usage: tools/events feed LIST [FEED] | tools/events list FEED [LIST] | tools/events help', file=sys.stderr)
-        return 2
-    source, target = words[1], words[2] if len(words) == 3 else '-'
     try:
-        if words[0] == 'feed':
-            write(target, feed_of_list(text_of(read(source), source), source))
-        else:
-            write(target, list_of_feed(read(source, MOST_BYTES + 1), source).encode())
+        if words in (['help'], ['-h'], ['--help']):
+            write('-', f'{__doc__.strip()}\n'.encode())
+            return 0
+        if len(words) not in (2, 3) or words[0] not in ('feed', 'list') or '' in words:
+            return complain('events', USAGE, 2)
+        turn(words[0], words[1], words[2] if len(words) == 3 else '-')
     except Refused as reason:
-        print(f'events: {reason}', file=sys.stderr)
-        return 1
+        return complain('events', reason)
     return 0
 
 

@@ -15,7 +15,13 @@ MOST_AMOUNT = 45_000_000_000_000_000
 
 KINDS = {'own': 1, 'block': 2, 'pay': 3, 'back': 4}
 WORDS = {kind: word for word, kind in KINDS.items()}
+MOST_SHOWN = 100
 
 
 class Refused(Exception):
     """What stands in the way, for the person who called."""
+
+
+def shown(text):
+    """A text as a message quotes it: its beginning alone where it is long."""
+    return f"'{text}'" if len(text) <= MOST_SHOWN else f"'{text[:MOST_SHOWN]}..'"

@@ -3,18 +3,18 @@ import re
 import struct
 
 from layout import (KINDS, MOST_ADDRESS, MOST_AMOUNT, MOST_BODY, MOST_BYTES, MOST_INDEX, MOST_INPUTS, MOST_NUMBER,
-                    MOST_OUTPUTS, MOST_OWN, MOST_ROWS, MOST_TRANSACTIONS, VERSION, Refused)
+                    MOST_OUTPUTS, MOST_OWN, MOST_ROWS, MOST_TRANSACTIONS, VERSION, Refused, shown)
 
 DIGITS = re.compile(r'[0-9]+|[0-9]{1,3}(,[0-9]{3})+|[0-9]+(_[0-9]+)+')
 
 
 def number(text, most, what):
     if not DIGITS.fullmatch(text):
-        raise Refused(f"expected {what}, found '{text}'")
+        raise Refused(f"expected {what}, found {shown(text)}")
     digits = re.sub('[,_]', '', text).lstrip('0') or '0'
     # the length first: Python refuses to read thousands of digits
     if len(digits) > len(str(most)) or int(digits) > most:
-        raise Refused(f"expected {what} up to {most:,}, found '{text}'")
+        raise Refused(f"expected {what} up to {most:,}, found {shown(text)}")
     return int(digits)
 
 
@@ -25,11 +25,11 @@ def parts(text, marks, what):
     for mark in marks:
         piece, found, rest = rest.partition(mark)
         if not found:
-            raise Refused(f"expected {what}, found '{text}'")
+            raise Refused(f"expected {what}, found {shown(text)}")
         pieces.append(piece)
     pieces.append(rest)
     if not all(DIGITS.fullmatch(piece) for piece in pieces):
-        raise Refused(f"expected {what}, found '{text}'")
+        raise Refused(f"expected {what}, found {shown(text)}")
     return pieces
 
 
@@ -47,7 +47,7 @@ def made(text):
 def ascending(keys, texts, what):
     for before, after, text, earlier in zip(keys, keys[1:], texts[1:], texts):
         if before >= after:
-            raise Refused(f"expected {what} in strictly ascending order, found '{text}' after '{earlier}'")
+            raise Refused(f"expected {what} in strictly ascending order, found {shown(text)} after {shown(earlier)}")
 
 
 def counted(things, least, most, what):
@@ -59,10 +59,10 @@ def transaction_of(text):
     """A transaction's number and bytes."""
     words = text.split()
     if not words or not words[0].endswith(':'):
-        raise Refused(f"expected a transaction, NUMBER: INPUT .. -> OUTPUT .., found '{text}'")
+        raise Refused(f"expected a transaction, NUMBER: INPUT .. -> OUTPUT .., found {shown(text)}")
     name = number(words[0][:-1], MOST_NUMBER, 'a transaction number')
     if '->' not in words:
-        raise Refused(f"expected -> between inputs and outputs, found '{text}'")
+        raise Refused(f"expected -> between inputs and outputs, found {shown(text)}")
     arrow = words.index('->')
     taken, given = words[1:arrow], words[arrow + 1:]
     inputs = [spent(word) for word in taken]
@@ -80,7 +80,7 @@ def hex_of(text):
     try:
         return bytes.fromhex(text)
     except ValueError:
-        raise Refused(f"expected bytes in hex, two digits each, found '{text}'") from None
+        raise Refused(f"expected bytes in hex, two digits each, found {shown(text)}") from None
 
 
 class Event:
@@ -103,7 +103,7 @@ class Event:
             ascending(self.names[-2:], [f'{each}:' for each in self.names[-2:]], 'transactions')
             counted(self.transactions, 0, MOST_TRANSACTIONS, 'transactions')
         else:
-            raise Refused(f"expected an event at the line's start, found '{text}'; indented lines belong to a block or to bytes")
+            raise Refused(f"expected an event at the line's start, found {shown(text)}; indented lines belong to a block or to bytes")
         if len(self.body()) > MOST_BODY:
             raise Refused(f'expected a body of at most {MOST_BODY:,} bytes, found {len(self.body()):,}')
 
@@ -146,7 +146,7 @@ def event_of(text, first):
         return raw_event(rest)
     if first != (word == 'own'):
         wanted = 'own as the first event' if first else 'block, pay or back'
-        raise Refused(f"expected {wanted}, found '{word}'")
+        raise Refused(f"expected {wanted}, found {shown(word)}")
     if word == 'own':
         return own_event(rest)
     if word == 'pay':
@@ -154,10 +154,10 @@ def event_of(text, first):
         event.transactions.append(transaction_of(rest)[1])
         return event
     if word not in KINDS:
-        raise Refused(f"expected block, pay or back, found '{word}'")
+        raise Refused(f"expected block, pay or back, found {shown(word)}")
     if rest:
         hint = '; its transactions stand on indented lines' if word == 'block' else ''
-        raise Refused(f"expected nothing after {word}, found '{rest}'{hint}")
+        raise Refused(f"expected nothing after {word}, found {shown(rest)}{hint}")
     return Event(KINDS[word])
 
 
@@ -184,11 +184,11 @@ class List:
         if not text.strip():
             return
         if self.cut is not None:
-            raise Refused(f"expected nothing after cut, found '{text.strip()}'")
+            raise Refused(f"expected nothing after cut, found {shown(text.strip())}")
         before = len(self.events[-1].body()) if self.events else 0
         if text[0] in ' \t':
             if not self.events:
-                raise Refused(f"expected own as the first event at the line's start, found '{text.strip()}'")
+                raise Refused(f"expected own as the first event at the line's start, found {shown(text.strip())}")
             self.events[-1].add(text.strip())
             self.size += len(self.events[-1].body()) - before
         elif text.split()[0] == 'cut':
