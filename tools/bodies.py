@@ -6,6 +6,12 @@
 """
 import struct
 import sys
+from pathlib import Path
+
+sys.dont_write_bytecode = True
+sys.path.insert(0, str(Path(__file__).resolve().parent / 'lib'))
+
+import calls
 
 LIMIT = 45_000_000_000_000_000
 
@@ -133,16 +139,24 @@ def reading(kind, body):
     return (0, 0) if reader.at == len(body) else (1, reader.at)
 
 
-def main():
-    if len(sys.argv) != 2 or sys.argv[1] not in ('list', 'lines'):
-        sys.exit(__doc__)
+def write(what):
     for kind, every, body in stored():
-        if sys.argv[1] == 'list':
+        if what == 'list':
             sys.stdout.buffer.write(struct.pack('<BBH', kind, every, len(body)) + body)
             continue
         for end in range(len(body) + 1) if every else [len(body)]:
             answer, place = reading(kind, body[:end])
             print(kind, end, answer, place)
+    return 0
 
 
-main()
+def main(words):
+    if words in (['-h'], ['--help']):
+        return calls.ended('bodies.py', print, __doc__.strip()) or 0
+    if words not in (['list'], ['lines']):
+        return calls.complain('bodies.py', 'usage: tools/bodies.py list | lines', 2)
+    return calls.ended('bodies.py', write, *words)
+
+
+if __name__ == '__main__':
+    sys.exit(main(sys.argv[1:]))

@@ -2,6 +2,9 @@
 //! sheets beside the second program's, and the turns of its walk, counted by a model.
 
 // The second program's modules, of which not everything is used here.
+#[macro_use]
+#[path = "../../second/src/say.rs"]
+mod say;
 #[allow(dead_code)]
 #[path = "../../second/src/chain.rs"]
 mod chain;
@@ -44,6 +47,9 @@ mod wallets;
 use measure::Program;
 use std::process::ExitCode;
 
+/// As messages call this program.
+const NAME: &str = "bench";
+
 const USAGE: &str = "usage: bench table PARTS NAME COMMAND.. -- RUST.. | plain | second
     PARTS are some of minimum,turns,sheets; NAME and COMMAND are those of the program that is
     judged, RUST is the command line of this one where it is measured";
@@ -61,13 +67,13 @@ fn main() -> ExitCode {
         _ => Err(USAGE.to_string()),
     };
     done.unwrap_or_else(|message| {
-        eprintln!("bench: {message}");
+        eprintln!("{NAME}: {message}");
         ExitCode::from(2)
     })
 }
 
 fn printed(answer: String) -> ExitCode {
-    println!("{answer}");
+    say!("{answer}");
     ExitCode::SUCCESS
 }
 
@@ -84,15 +90,15 @@ fn table(parts: &str, name: &str, commands: &[&str]) -> Result<ExitCode, String>
             _ => return Err(USAGE.to_string()),
         });
     }
-    missed.iter().for_each(|miss| println!("missed: {miss}"));
+    missed.iter().for_each(|miss| say!("missed: {miss}"));
     if !missed.is_empty() {
-        println!("targets not met: {} missed", missed.len());
+        say!("targets not met: {} missed", missed.len());
         return Ok(ExitCode::FAILURE);
     }
     if name != PROVED {
-        println!("targets met by the {name}: this says nothing of the proved program");
+        say!("targets met by the {name}: this says nothing of the proved program");
         return Ok(ExitCode::FAILURE);
     }
-    println!("targets met");
+    say!("targets met");
     Ok(ExitCode::SUCCESS)
 }

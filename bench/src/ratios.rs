@@ -18,7 +18,7 @@ const SHEET_TARGET: f64 = 1.0;
 
 /// Prints the table of the minimum; gives what is missed.
 pub fn minimum(proved: &Program, plain: &Program) -> Result<Vec<String>, String> {
-    println!("One query of the minimum: how many times as fast as the plain rendering");
+    say!("One query of the minimum: how many times as fast as the plain rendering");
     head("pending payments");
     let mut missed = Vec::new();
     for kind in KINDS {
@@ -29,24 +29,24 @@ pub fn minimum(proved: &Program, plain: &Program) -> Result<Vec<String>, String>
             missed.extend(compared(&name, MINIMUM, &feed, target, [proved, plain])?);
         }
     }
-    println!();
+    say!("");
     Ok(missed)
 }
 
 /// Prints the table of the sheets; gives what is missed.
 pub fn sheets(proved: &Program, second: &Program) -> Result<Vec<String>, String> {
-    println!("A whole sheet: how many times as fast as the second program");
+    say!("A whole sheet: how many times as fast as the second program");
     head("feed");
     let mut missed = Vec::new();
     for (name, feed) in feeds::all() {
         missed.extend(compared(name, SHEET, &feed, Some(SHEET_TARGET), [proved, second])?);
     }
-    println!();
+    say!("");
     Ok(missed)
 }
 
 fn head(name: &str) {
-    println!("{name:<20} {:>10} {:>8}   [times of this run]", "ratio", "target");
+    say!("{name:<20} {:>10} {:>8}   [times of this run]", "ratio", "target");
 }
 
 fn compared(
@@ -60,9 +60,12 @@ fn compared(
     let ratio = theirs.nanoseconds / ours.nanoseconds;
     let wanted = target.map_or(String::new(), |target| format!("{target:.0}"));
     let times = [ours.nanoseconds, theirs.nanoseconds].map(shown);
-    println!(
+    say!(
         "{name:<20} {ratio:>10.2} {wanted:>8}   [{} {}, {} {}]",
-        proved.name, times[0], other.name, times[1]
+        proved.name,
+        times[0],
+        other.name,
+        times[1]
     );
     if ours.answer != theirs.answer {
         let (ours, theirs) = (ours.answer, theirs.answer);

@@ -47,7 +47,7 @@ impl Count {
 
     fn line(&self, name: &str) {
         let mean = self.turns / self.states.max(1);
-        println!("{name:<28} {:>8} {:>10} {mean:>10}", self.states, self.largest);
+        say!("{name:<28} {:>8} {:>10} {mean:>10}", self.states, self.largest);
     }
 }
 
@@ -63,8 +63,8 @@ fn by_second(state: &Present) -> Least {
 
 /// Prints the counts; gives what is missed.
 pub fn run() -> Vec<String> {
-    println!("Turns of the walk, by a model of it");
-    println!("{:<28} {:>8} {:>10} {:>10}", "wallets", "number", "most", "mean");
+    say!("Turns of the walk, by a model of it");
+    say!("{:<28} {:>8} {:>10} {:>10}", "wallets", "number", "most", "mean");
     let mut counts: Vec<Count> = Vec::new();
     for kind in KINDS {
         let mut count = Count::default();
@@ -97,8 +97,8 @@ fn summed_up(counts: &[Count]) -> Vec<String> {
     let turns: u64 = counts.iter().map(|count| count.turns).sum();
     let plain: u64 = counts.iter().map(|count| count.compared_with_plain).sum();
     let largest = counts.iter().map(|count| count.largest).max().unwrap_or(0);
-    println!("{:<28} {states:>8} {largest:>10} {:>10}", "all", turns / states.max(1));
-    println!(
+    say!("{:<28} {states:>8} {largest:>10} {:>10}", "all", turns / states.max(1));
+    say!(
         "The minimum was compared with the plain rendering on {plain} of them, with the second \
          program on the others."
     );
@@ -106,10 +106,10 @@ fn summed_up(counts: &[Count]) -> Vec<String> {
     for count in counts {
         missed.extend(count.wrong.iter().cloned());
         if let Some((name, state)) = count.worst.as_ref().filter(|_| count.largest >= LIMIT) {
-            println!("\n{} turns: {name}\n{}", count.largest, state.text());
+            say!("\n{} turns: {name}\n{}", count.largest, state.text());
             missed.push(format!("{} turns, not under {LIMIT}: {name}", count.largest));
         }
     }
-    println!();
+    say!("");
     missed
 }

@@ -47,8 +47,8 @@ pub fn run(sheet: &str, inside: &str, count: usize, seed: u64) -> bool {
     };
     found.tally.print();
     let missing = found.tally.missing();
-    missing.iter().for_each(|name| println!("never occurred: {name}"));
-    println!("{count} feeds compared, {} differences", found.differences);
+    missing.iter().for_each(|name| say!("never occurred: {name}"));
+    say!("{count} feeds compared, {} differences", found.differences);
     found.differences == 0 && missing.is_empty()
 }
 
@@ -81,10 +81,10 @@ impl Comparison<'_> {
         let name = format!("second-{}-{index:06}.feed", self.seed);
         let path = std::env::temp_dir().join(name);
         if let Err(error) = std::fs::write(&path, feed) {
-            println!("the feed could not be kept: {error}");
+            say!("the feed could not be kept: {error}");
         }
-        println!("difference: {} (seed {}, feed {index})", path.display(), self.seed);
-        println!("{difference}");
+        say!("difference: {} (seed {}, feed {index})", path.display(), self.seed);
+        say!("{difference}");
     }
 }
 

@@ -1,6 +1,9 @@
 //! The second program: the paper's rules once more, in plain Rust, to be compared with the proved
 //! recorder.
 
+#[macro_use]
+mod say;
+
 mod chain;
 mod chance;
 mod compare;
@@ -23,6 +26,9 @@ use std::path::Path;
 use std::process::ExitCode;
 use std::time::Instant;
 
+/// As messages call this program.
+const NAME: &str = "second";
+
 const USAGE: &str = "usage: second sheet | inside | time N | selftest |
     generate SEED COUNT DIR | compare SHEET INSIDE COUNT SEED";
 
@@ -32,7 +38,7 @@ fn main() -> ExitCode {
     match obey(&words) {
         Ok(code) => code,
         Err(message) => {
-            eprintln!("second: {message}");
+            eprintln!("{NAME}: {message}");
             ExitCode::from(2)
         }
     }

@@ -223,13 +223,13 @@ impl Tally {
     }
 
     pub fn print(&self) {
-        println!("answer        own      block        pay       back");
+        say!("answer        own      block        pay       back");
         for (answer, counts) in self.answers.iter().enumerate() {
             let columns: String = counts.iter().map(|count| format!(" {count:>10}")).collect();
-            println!("{answer:<6}{columns}");
+            say!("{answer:<6}{columns}");
         }
         for situation in SITUATIONS {
-            println!("{:>9} {situation}", self.situations.get(situation).unwrap_or(&0));
+            say!("{:>9} {situation}", self.situations.get(situation).unwrap_or(&0));
         }
     }
 
