@@ -111,14 +111,18 @@ fn own_texts(feed: &[u8], tally: &mut Tally) -> (String, String) {
     }
 }
 
-/// Nothing when the program ends by itself with status 0 and writes just this text.
+/// The status by which a program tells that the feed is refused; else it is 0.
+const TELLS_REFUSED: i32 = 3;
+
+/// Nothing when the program ends by itself with the right status and writes just this text.
 fn difference(program: &str, feed: &[u8], wanted: &str) -> Option<String> {
-    let (status, written) = match answer_of(program, feed) {
+    let (status, written, said) = match answer_of(program, feed) {
         Ok(answer) => answer,
         Err(message) => return Some(format!("  {program}: {message}")),
     };
-    if !status.success() {
-        return Some(format!("  {program}: {status}"));
+    let wanted_status = if wanted == events::REFUSED { TELLS_REFUSED } else { 0 };
+    if status.code() != Some(wanted_status) {
+        return Some(format!("  {program}: {status}, expected {wanted_status}; {}", said.trim_end()));
     }
     if written == wanted.as_bytes() {
         return None;
@@ -139,18 +143,24 @@ fn difference(program: &str, feed: &[u8], wanted: &str) -> Option<String> {
 }
 
 /// Writing and reading go on side by side, so that neither program waits for the other for ever.
-fn answer_of(program: &str, feed: &[u8]) -> Result<(ExitStatus, Vec<u8>), String> {
+fn answer_of(program: &str, feed: &[u8]) -> Result<(ExitStatus, Vec<u8>, String), String> {
     let mut words = program.split_whitespace();
     let mut child = Command::new(words.next().unwrap_or_default())
         .args(words)
         .stdin(Stdio::piped())
         .stdout(Stdio::piped())
+        .stderr(Stdio::piped())
         .spawn()
         .map_err(|error| error.to_string())?;
-    let (stdin, stdout) = (child.stdin.take(), child.stdout.take());
+    let (stdin, stdout, stderr) = (child.stdin.take(), child.stdout.take(), child.stderr.take());
     thread::scope(|scope| {
         // A program may refuse a feed before it has read all of it.
         scope.spawn(move || stdin.map(|mut stdin| stdin.write_all(feed)));
+        let said = scope.spawn(move || {
+            let mut said = String::new();
+            let _ = stderr.map(|mut stderr| stderr.read_to_string(&mut said));
+            said
+        });
         let (sender, receiver) = mpsc::channel();
         scope.spawn(move || {
             let mut written = Vec::new();
@@ -159,7 +169,8 @@ fn answer_of(program: &str, feed: &[u8]) -> Result<(ExitStatus, Vec<u8>), String
         });
         let written = receiver.recv_timeout(PATIENCE).ok().flatten();
         let status = ended(&mut child, written.is_some())?;
-        written.map(|written| (status, written)).ok_or_else(|| "no end".to_string())
+        let said = said.join().unwrap_or_default();
+        written.map(|written| (status, written, said)).ok_or_else(|| "no end".to_string())
     })
 }
 
