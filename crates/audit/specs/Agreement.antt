@@ -5,13 +5,10 @@ use mathlib.Core.Logic.{_⊎_, inl, inr}
 use mathlib.Core.Bool.{Bool, true, false, not, cond, _||_}
 use mathlib.Core.List.{List, [], _∷_, map}
 use native.Mathlib.Omega.{arith}
-use lib.Dec.{T, T-not, eqb, eqb·zero-suc, eqb·suc-suc}
-use lib.ListN.{length, getD, take, length-map, length-take, List·getD-append}
+use lib.Dec.{T, eqb, eqb·zero-suc, eqb·suc-suc}
+use lib.ListN.{length, getD, take, length-map, length-take}
 use lib.Seq.{getD-take}
-use Rattle.chain.specs.View.{zeroReference}
-use Rattle.sets.specs.Tests.{T-cases, is-true, equal-holds}
-use Rattle.sets.specs.Fill.{filled-first}
-use Rattle.sets.specs.Walks.{map-at}
+use Rattle.sets.specs.Tests.{T-cases, is-true, neqb→ne}
 use Rattle.rules.specs.declared.Reference.{Reference}
 use Rattle.rules.specs.declared.Entry.{Entry}
 use Rattle.rules.specs.Sizes.{mostReferences}
@@ -22,6 +19,7 @@ use Rattle.flat.specs.declared.Made.{Made}
 use Rattle.flat.specs.declared.Places.{Places}
 use Rattle.flat.specs.Flat.{refsOf, placesOf, refsIn, madeIn, seek}
 use Rattle.flat.specs.SeekLaws.{seek-most}
+use Rattle.flat.specs.Told.{refs-back, count-of, place-of}
 use Rattle.audit.specs.Audit.{agreesFirst}
 
 -- the references of some entries of the pool
@@ -67,7 +65,7 @@ agrees-at o entries used place n d here size p q u =
         let e = is-true (eqb s (length es)) t in
         ap (λ (b : Bool). b || here) e ∙ sym (ap (λ (b : Bool). b || value) e) ∙ sym (agrees-found o es d)
     byPlace (inr t) =
-        let differ : s ≡ length es → ⊥ = λ e. T-not (eqb s (length es)) t (equal-holds s (length es) e) in
+        let differ : s ≡ length es → ⊥ = neqb→ne s (length es) t in
         let most : s ≤ length es = omega (arith, seek-most (o .reference) (heldRefs es), length-map es (λ (h : Held). h .entry .reference)) in
         let inside : s < length es = omega arith in
         let first : s < used = omega (arith, length-take used entries) in
@@ -84,25 +82,5 @@ pub output-place :
     length (m .entries) ≡ mostReferences → i < min (m .count) mostReferences →
     getD (places .at) i 0 ≡ seek (getD (m .entries) i d .reference) held
 output-place m held a b places i d ea eb ep size h =
-    ap (λ (x : Places). getD (x .at) i 0) ep
-    ∙ ap₂ (λ (x y : List Reference). getD (placesOf (map (λ r. seek r x) y) .at) i 0) inB inA
-    ∙ List·getD-append (map find outs) _ 0 i (omega (arith, length-map outs find, many))
-    ∙ map-at find outs i zeroReference 0 (omega (arith, many))
-    ∙ ap find
-    (map-at (λ (e : Entry). e .reference) (madeIn m) i d zeroReference (omega (arith, length-take (m .count) (m .entries)))
-    ∙ ap (λ (e : Entry). e .reference) (getD-take (m .count) (m .entries) i d (omega arith)))
-  where
-    outs : List Reference
-    outs = map (λ e. e .reference) (madeIn m)
-
-    find : Reference → ℕ
-    find r = seek r held
-
-    many : i < length outs
-    many = omega (arith, length-map (madeIn m) (λ (e : Entry). e .reference), length-take (m .count) (m .entries))
-
-    inA : refsIn a ≡ outs
-    inA = ap refsIn ea ∙ filled-first mostReferences zeroReference outs
-
-    inB : refsIn b ≡ held
-    inB = ap refsIn eb ∙ filled-first mostReferences zeroReference held
+    place-of (λ (e : Entry). e .reference) (m .entries) (m .count) a ea d b places held (ap refsIn eb ∙ refs-back held) ep i
+    (omega (arith, count-of (λ (e : Entry). e .reference) (m .entries) (m .count) a ea))

@@ -2,7 +2,7 @@
 -- of which is held against the first entry of its reference alone, since the entries ascend.
 use Prim.Native.Nat.{ℕ, suc, _-_, _^_}
 use mathlib.Core.Path.{_≡_, refl, sym, ap, subst, _∙_}
-use mathlib.Core.Bool.{Bool, true, false, not, cond, _&&_, _||_}
+use mathlib.Core.Bool.{Bool, true, false, not, cond, _&&_, _||_, and-true, and-assoc}
 use mathlib.Core.List.{List, [], _∷_, map, List·Memᴰ}
 use lib.Dec.{T, not-T, eqb, leb, ltb, leb→le, le→leb}
 use lib.ListN.{length, take}
@@ -11,11 +11,11 @@ use Rattle.sets.specs.Tests.{or-left, and-left, and-right, and-both, is-true, s
 use Rattle.sets.specs.Laws.{all-intro}
 use Rattle.sets.specs.Maps.{all-same}
 use Rattle.sets.specs.Order.{ascending-tail, ascending-first}
-use Rattle.sets.specs.Walks.{and-true, and-assoc, joined-every, every-facts, every-holds, all-both}
+use Rattle.sets.specs.Walks.{joined-every, every-facts, every-holds, all-both}
 use Rattle.rules.specs.declared.Reference.{Reference}
 use Rattle.rules.specs.declared.Entry.{Entry}
 use Rattle.rules.specs.Sizes.{largestAmount, mostOwn, mostStates, mostPayments, mostReferences}
-use Rattle.rules.specs.Chain.{sameReference, sameEntry, sameValue, made, isOwn, shapedOwn, shapedTransaction}
+use Rattle.rules.specs.Chain.{sameReference, sameEntry, sameValue, made, isOwn, shapedTransaction}
 use Rattle.rules.specs.ChainLaws.{sameReference-eq, beforeReference-trans, beforeReference-never}
 use Rattle.rules.specs.Sound.{agree}
 use Rattle.chain.specs.View as ChainView
@@ -27,7 +27,7 @@ use Rattle.pool.specs.Marks.{apartMarks}
 use Rattle.pool.specs.View.{entriesOf, paymentsOf}
 use Rattle.pool.specs.Good.{beforeHeld, heldFits, paymentFits, laidOut, good, poolSound}
 use Rattle.pool.specs.LayoutLaws.{laid-out-facts, facts-laid-out}
-use Rattle.pool.specs.SoundLaws.{sound-good}
+use Rattle.pool.specs.SoundLaws.{soundTests, sound-good}
 use Rattle.audit.specs.Audit.{heldTest, paymentTest, entriesPart, paymentsPart, agreesFirst}
 use Rattle.audit.specs.Checks.{entriesList, paymentsList}
 
@@ -106,10 +106,11 @@ unfolding goodTransaction
 all-payments n l =
     all-same (paymentTest (2 ^ n)) (λ p. paymentFits n p && shapedTransaction (viewTransaction (p .transaction))) l
     (λ p m.
-    and-assoc
+    sym
+    (and-assoc
     (ltb (p .pending) (2 ^ n) && not (eqb (p .pending) 0))
     (ChainView.laidOut (p .transaction))
-    (shapedTransaction (viewTransaction (p .transaction))))
+    (shapedTransaction (viewTransaction (p .transaction)))))
     ∙ all-both (paymentFits n) (λ p. shapedTransaction (viewTransaction (p .transaction))) l
     ∙ joined-every (all (paymentFits n) l) (all (λ p. shapedTransaction (viewTransaction (p .transaction))) l ∷ [])
 
@@ -118,17 +119,6 @@ all-payments n l =
 -- all that the payments of a pool make
 abbrev pub paymentsMake : Pool → List Entry
 paymentsMake w = made (map (λ p. viewTransaction (p .transaction)) (paymentsOf w))
-
--- what is asked of the pool beside its layout
-abbrev soundTests : Pool → List Bool
-soundTests w =
-    shapedOwn (take (w .owns) (w .own))
-    ∷ all (λ h. leb (h .entry .amount) largestAmount) (entriesOf w)
-    ∷ all (λ h. isOwn (take (w .owns) (w .own)) (h .entry)) (entriesOf w)
-    ∷ all (λ h. apartMarks mostStates (h .utxo) (h .expected)) (entriesOf w)
-    ∷ all (λ p. shapedTransaction (viewTransaction (p .transaction))) (paymentsOf w)
-    ∷ all (λ o. all (λ h. agree o (h .entry)) (entriesOf w)) (paymentsMake w)
-    ∷ []
 
 module _ (w : Pool) where
   -- the parts as the definition groups them

@@ -6,18 +6,17 @@ use mathlib.Core.Bool.{Bool, not, _&&_}
 use mathlib.Core.List.{List, map, map-map, map-id}
 use native.Mathlib.Omega.{arith}
 use lib.Dec.{eqb, ltb}
-use lib.ListN.{length, getD, take, replicate, length-map, length-take, length-append, length-replicate, List·getD-append}
-use lib.Seq.{getD-take}
+use lib.ListN.{length, getD, take, replicate, length-append, length-replicate}
 use Rattle.sets.specs.Sets.{any, has, keep}
 use Rattle.sets.specs.Maps.{any-map, any-keep}
-use Rattle.sets.specs.Fill.{filled, filled-first, take-done, gained, Gaining, mapped-at, gained-kept}
+use Rattle.sets.specs.Fill.{filled, take-done, gained, Gaining, gained-kept}
 use Rattle.rules.specs.declared.Reference.{Reference}
 use Rattle.rules.specs.declared.Entry.{Entry}
-use Rattle.rules.specs.Sizes.{mostReferences, mostTransactions}
+use Rattle.rules.specs.Sizes.{mostReferences}
 use Rattle.rules.specs.Chain as Chain
 use Rattle.rules.specs.Chain.{sameReference, made, spent, isOwn}
 use Rattle.rules.specs.Balances.{available}
-use Rattle.chain.specs.View.{zeroReference, zeroTransaction, viewTransaction, viewBlock}
+use Rattle.chain.specs.View.{viewTransaction, viewBlock}
 use Rattle.chain.specs.declared.Transaction.{Transaction}
 use Rattle.chain.specs.declared.Block.{Block}
 use Rattle.pool.specs.declared.Held.{Held}
@@ -32,19 +31,7 @@ use Rattle.flat.specs.declared.Made.{Made}
 use Rattle.flat.specs.declared.Refs.{Refs}
 use Rattle.flat.specs.declared.Places.{Places}
 use Rattle.flat.specs.Flat.{zeroEntry, refsOf, madeOf, placesOf, blockOf, refsIn, madeIn, seek}
-use Rattle.flat.specs.SeekLaws.{seek-found}
-
--- ── laid flat and read back
-
--- references, entries and transactions laid flat are read back as they were
-pub refs-back : (l : List Reference) → refsIn (refsOf l) ≡ l
-refs-back l = filled-first mostReferences zeroReference l
-
-pub made-back : (l : List Entry) → madeIn (madeOf l) ≡ l
-made-back l = filled-first mostReferences zeroEntry l
-
-pub block-back : (l : List Transaction) → viewBlock (blockOf l) ≡ map viewTransaction l
-block-back l = ap (map viewTransaction) (filled-first mostTransactions zeroTransaction l)
+use Rattle.flat.specs.Told.{refs-back, made-back, block-back, tells}
 
 -- the block of the payments that are pending holds them
 pub pending-back : (ps : List Payment) → viewBlock (blockOf (map (λ p. p .transaction) (keep (λ p. marked 0 (p .pending)) ps))) ≡ pendingAt 0 ps
@@ -54,49 +41,14 @@ pending-back ps =
 
 -- ── found
 
--- a reference is found at a place below the end exactly where it is among those
-pub found-there :
-    (at : List ℕ) (these those : List Reference) (stop j : ℕ) →
-    at ≡ filled mostReferences 0 (map (λ x. seek x those) these) → stop ≡ length those → j < length these →
-    ltb (getD at j 0) stop ≡ has sameReference (getD these j zeroReference) those
-found-there at these those stop j e f h =
-    let one-place : getD at j 0 ≡ seek (getD these j zeroReference) those =
-    ap (λ (a : List ℕ). getD a j 0) e
-    ∙ List·getD-append (map (λ x. seek x those) these) (replicate (mostReferences - length (map (λ x. seek x those) these)) 0) 0 j (omega (arith, length-map these (λ x. seek x those)))
-    ∙ mapped-at (λ x. seek x those) these j zeroReference 0 h
-    in
-    (λ i. ltb (one-place i) (f i)) ∙ seek-found (getD these j zeroReference) those
-
--- the same of arrays with a count, as a search leaves them
-pub found-among :
-    (a b : List Reference) (these those : Refs) (places : Places) (j : ℕ) →
-    these ≡ refsOf a → those ≡ refsOf b → places ≡ placesOf (map (λ x. seek x (refsIn those)) (refsIn these)) → j < length a →
-    ltb (getD (places .at) j 0) (those .count) ≡ has sameReference (getD a j zeroReference) b
-found-among a b these those places j e f g h =
-    let from : refsIn these ≡ a = ap refsIn e ∙ refs-back a in
-    let into : refsIn those ≡ b = ap refsIn f ∙ refs-back b in
-    let where-found : places .at ≡ filled mostReferences 0 (map (λ x. seek x b) a) =
-    ap (λ (q : Places). q .at) g ∙ (λ i. filled mostReferences 0 (map (λ x. seek x (into i)) (from i)))
-    in
-    found-there (places .at) a b (those .count) j where-found (ap (λ (q : Refs). q .count) f) h
-
-module _ {A : Type 0} (f : A → Reference) (l : List A) (k : ℕ) (these : Refs) (e : these ≡ refsOf (map f (take k l))) where
-  -- how many references the first members of a list have
-  pub refs-many : these .count ≡ min k (length l)
-  refs-many = omega (arith, ap (λ (r : Refs). r .count) e, length-map (take k l) f, length-take k l)
-
-  -- and the same of each of them
-  pub found-of :
-      (d : A) (b : List Reference) (those : Refs) (places : Places) (j : ℕ) →
-      those ≡ refsOf b → places ≡ placesOf (map (λ x. seek x (refsIn those)) (refsIn these)) → j < these .count →
-      ltb (getD (places .at) j 0) (those .count) ≡ has sameReference (f (getD l j d)) b
-  found-of d b those places j e′ g h =
-      let inside : j < length (take k l) = omega (arith, refs-many, length-take k l) in
-      let here : getD (map f (take k l)) j zeroReference ≡ f (getD l j d) =
-      mapped-at f (take k l) j d zeroReference inside ∙ ap f (getD-take k l j d (omega (arith, length-take k l)))
-      in
-      found-among (map f (take k l)) b these those places j e e′ g (omega (arith, length-map (take k l) f))
-      ∙ ap (λ (r : Reference). has sameReference r b) here
+-- each reference was found at a place below the end exactly where it is among those of another list that was laid flat
+pub found-of :
+    {A : Type 0} (f : A → Reference) (l : List A) (k : ℕ) (these : Refs) → these ≡ refsOf (map f (take k l)) →
+    (d : A) (b : List Reference) (those : Refs) (places : Places) (j : ℕ) →
+    those ≡ refsOf b → places ≡ placesOf (map (λ x. seek x (refsIn those)) (refsIn these)) → j < these .count →
+    ltb (getD (places .at) j 0) (those .count) ≡ has sameReference (f (getD l j d)) b
+found-of f l k these e d b those places j laid g h =
+    tells f l k these e d those places b (those .count) (ap refsIn laid ∙ refs-back b) g (ap (λ (q : Refs). q .count) laid) j h
 
 -- what the pending payments take
 pub taken-back :

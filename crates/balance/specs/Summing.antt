@@ -9,7 +9,9 @@ use lib.Dec.{T, leb, leb→le}
 use lib.ListN.{length, getD, take}
 use Rattle.sets.specs.Sets.{all, total}
 use Rattle.sets.specs.Tests.{T-cases, cond-true, cond-false}
-use Rattle.sets.specs.Walks.{total-counted, all-step, total-more}
+use Rattle.sets.specs.Walks.{all-step, total-more}
+use Rattle.sets.specs.Laws.{all-elim, keep-all}
+use Rattle.sets.specs.Sums.{total-kept}
 use Rattle.sets.specs.Fill.{take-done}
 use Rattle.rules.specs.declared.Entry.{Entry}
 use Rattle.rules.specs.Sizes.{largestAmount, mostReferences}
@@ -61,7 +63,8 @@ sum-within l =
     ⊎-elim
     (λ (t : T (all within l)).
     cond-true (all within l) (total counted l) 0 t
-    ∙ total-counted within (λ e. e .amount) l t
+    ∙ sym (total-kept (λ e. e .amount) within l)
+    ∙ ap worth (keep-all within l (λ e m. all-elim within t m))
     ∙ sym (cond-true (all within l) (worth l) 0 t))
     (λ (t : T (not (all within l))).
     cond-false (all within l) (total counted l) 0 t

@@ -16,9 +16,9 @@ use Rattle.rules.specs.declared.Output.{Output}
 use Rattle.rules.specs.Sizes.{largestAmount, mostOutputs, mostPayments, mostReferences}
 use Rattle.rules.specs.Chain as Chain
 use Rattle.rules.specs.Chain.{sameReference, entryOf, makes, made, spent, worth, shapedTransaction}
+use Rattle.rules.specs.ShapeLaws.{shaped-facts}
 use Rattle.rules.specs.States.{State, states}
 use Rattle.rules.specs.Balances.{available, availableBalance, totalBalance}
-use Rattle.chain.specs.Facts.{shaped-facts}
 use Rattle.chain.specs.View.{viewTransaction}
 use Rattle.pool.specs.declared.Held.{Held}
 use Rattle.pool.specs.declared.Payment.{Payment}
@@ -30,8 +30,8 @@ use Rattle.pool.specs.LayoutLaws.{good-layout, good-sound}
 use Rattle.pool.specs.RefusalLaws.{isAvailable, available-places}
 use Rattle.pool.specs.BalanceLaws.{isChange, total-pool}
 use Rattle.flat.specs.Flat.{madeIn, madeOf}
+use Rattle.flat.specs.Told.{made-back}
 use Rattle.balance.specs.Worth.{worthWithin}
-use Rattle.balance.specs.Picked.{made-back}
 use Rattle.balance.specs.Summing.{within, counted, counted-most, sum-within}
 
 -- ── any list
@@ -65,7 +65,8 @@ abbrev pub changeOf : Pool → List Entry
 changeOf w = keep (isChange (take (w .owns) (w .own)) (entriesOf w) (paymentsOf w)) (made (pendingAt 0 (paymentsOf w)))
 
 module _ (w : Pool) (t : T (good w)) where
-  available-within : (e : Entry) → List·Memᴰ e (available (view w .present)) → e .amount ≤ largestAmount
+  -- no available amount is above the limit
+  pub available-within : (e : Entry) → List·Memᴰ e (available (view w .present)) → e .amount ≤ largestAmount
   unfolding available
   available-within e m =
       good-sound w t .amounts e

@@ -1,6 +1,4 @@
-pub mod Bits
 pub mod BlockTurns
 pub mod Lists
 pub mod Merging
 pub mod PaymentTurns
-pub mod Told

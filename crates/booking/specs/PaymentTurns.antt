@@ -1,17 +1,19 @@
 -- A turn of the loop that books a block on the payments: of each payment's eight places in the search, the used ones tell
 -- whether the block spends one of its inputs.
 use Prim.Native.Nat.{ℕ, suc, _+_, _*_, _-_, _≤_, _<_, min}
-use mathlib.Core.Path.{_≡_, ap, _∙_}
+use mathlib.Core.Path.{_≡_, sym, ap, _∙_}
 use mathlib.Core.Bool.{Bool, not, cond, _&&_}
 use mathlib.Core.List.{List, _++_, map}
 use native.Mathlib.Omega.{arith}
 use lib.Dec.{ltb}
 use lib.ListN.{length, getD, take, drop, set, replicate, length-append, length-map, length-take, length-drop}
-use lib.Seq.{drop-append-le, take-append-le, getD-take}
+use lib.Seq.{drop-append-le, take-append-le, getD-take, length-take-le}
 use mir.Val.{boolByte}
-use Rattle.sets.specs.Sets.{any, has, keep, gather}
+use Rattle.sets.specs.Sets.{any, has, keep, total, gather}
 use Rattle.sets.specs.Fill.{filled, take-capped}
-use Rattle.sets.specs.Placing.{any-by, gather-from, keep-map-turn, map-drop, map-take}
+use Rattle.sets.specs.Placing.{gather-start, keep-map-turn, map-drop, map-take}
+use Rattle.sets.specs.Maps.{any-map}
+use Rattle.sets.specs.Sums.{total-each}
 use Rattle.rules.specs.declared.Reference.{Reference}
 use Rattle.rules.specs.Sizes.{mostPayments, mostReferences}
 use Rattle.rules.specs.Chain.{sameReference}
@@ -25,7 +27,7 @@ use Rattle.flat.specs.declared.Places.{Places}
 use Rattle.flat.specs.Flat.{refsOf, refsIn, placesOf, seek}
 use Rattle.flat.specs.Slots.{pastEnd}
 use Rattle.flat.specs.SeekLaws.{seek-found}
-use Rattle.booking.specs.Told.{refs-back}
+use Rattle.flat.specs.Told.{refs-back}
 
 -- what a read past the last payment gives
 abbrev pub pastPayment : Payment
@@ -47,7 +49,9 @@ pub payments-tell :
     end ≡ min n (length payments) → a ≡ refsOf (gather inputPlaces (take n payments)) → refsIn b ≡ gone →
     p ≡ placesOf (map (λ x. seek x (refsIn b)) (refsIn a)) → stop ≡ length gone → PaymentsTell payments (p .at) stop end gone
 payments-tell payments n end stop a b p gone wide ends e f g k i h =
-    ap (any (λ m. ltb m stop)) part ∙ any-by (λ m. ltb m stop) (λ x. has sameReference x gone) place found (take (here .transaction .takes) row)
+    ap (any (λ m. ltb m stop)) part
+    ∙ any-map (λ m. ltb m stop) place (take (here .transaction .takes) row)
+    ∙ (λ t. any (λ x. found x t) (take (here .transaction .takes) row))
   where
     place : Reference → ℕ
     place x = seek x gone
@@ -85,8 +89,14 @@ payments-tell payments n end stop a b p gone wide ends e f g k i h =
     all : List Reference
     all = gather inputPlaces used
 
+    eights : total (λ (q : Payment). 8) (take i used) ≡ i * 8
+    eights = total-each 8 (take i used) ∙ ap (λ (k : ℕ). k * 8) (length-take-le i used (omega (arith, among)))
+
     from : drop (i * 8) all ≡ row ++ rest
-    from = gather-from inputPlaces used i pastPayment usedWide among ∙ ap (λ (q : Payment). inputPlaces q ++ rest) (getD-take n payments i pastPayment few)
+    from =
+        ap (λ (k : ℕ). drop k all) (sym eights)
+        ∙ gather-start inputPlaces (λ q. 8) used i pastPayment usedWide among
+        ∙ ap (λ (q : Payment). inputPlaces q ++ rest) (getD-take n payments i pastPayment few)
 
     fits : i * 8 ≤ length (map place all)
     fits = omega (arith, length-map all place, length-drop (i * 8) all, ap length from, length-append row rest, rowLong)
@@ -94,7 +104,7 @@ payments-tell payments n end stop a b p gone wide ends e f g k i h =
     array : p .at ≡ placesOf (map place all) .at
     array =
         ap (λ (q : Places). q .at) g
-        ∙ ap (λ (l : List Reference). placesOf (map (λ x. seek x (refsIn b)) l) .at) (refs-back a all e)
+        ∙ ap (λ (l : List Reference). placesOf (map (λ x. seek x (refsIn b)) l) .at) (ap refsIn e ∙ refs-back all)
         ∙ ap (λ (m : List Reference). placesOf (map (λ x. seek x m) all) .at) f
 
     zeros : List ℕ

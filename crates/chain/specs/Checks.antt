@@ -10,12 +10,14 @@ use lib.ListN.{length, take, drop, length-map}
 use lib.Seq.{length-take-le}
 use Rattle.sets.specs.Sets.{every, all, ascending}
 use Rattle.sets.specs.Tests.{and-left, and-right, and-both, same-test, is-false}
-use Rattle.sets.specs.Walks.{every-facts, every-holds, all-both, all-map, ascending-map}
+use Rattle.sets.specs.Walks.{every-facts, every-holds, all-both, ascending-map}
+use Rattle.sets.specs.Maps.{all-map}
 use Rattle.rules.specs.Sizes.{largestAmount, fewestInputs, mostInputs, mostOutputs, mostTransactions}
 use Rattle.rules.specs.Chain.{beforeReference, beforeOutput, beforeTransaction, shapedTransaction, shapedBlock}
+use Rattle.rules.specs.ShapeLaws.{shaped-facts, shaped, shaped-block-facts, shaped-block}
 use Rattle.chain.specs.View.{noNumber, noReference, noOutput, viewTransaction, viewBlock, laidOut, noTransaction, laidOutBlock, goodTransaction, goodBlock, beforeStruct}
 use Rattle.sets.specs.Tests.{equal-holds}
-use Rattle.chain.specs.Facts.{laid-out-facts, laid-out, unused-facts, unused, laid-out-block-facts, laid-out-block, shaped-facts, shaped, shaped-block-facts, shaped-block}
+use Rattle.chain.specs.Facts.{laid-out-facts, laid-out, unused-facts, unused, laid-out-block-facts, laid-out-block}
 use Rattle.chain.specs.declared.Transaction.{Transaction}
 use Rattle.chain.specs.declared.Block.{Block}
 
@@ -130,7 +132,7 @@ pub all-good : (l : List Transaction) → all goodTransaction l ≡ (all laidOut
 unfolding goodTransaction
 all-good l =
     all-both laidOut (λ t. shapedTransaction (viewTransaction t)) l
-    ∙ ap (λ (b : Bool). all laidOut l && b) (sym (all-map viewTransaction shapedTransaction l))
+    ∙ ap (λ (b : Bool). all laidOut l && b) (sym (all-map shapedTransaction viewTransaction l))
 
 -- the code's tests of a block are the definition's
 pub good-block-tests : (b : Block) → length (b .transactions) ≡ mostTransactions → b .count ≤ mostTransactions → every (blockTests b) ≡ goodBlock b

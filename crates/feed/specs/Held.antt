@@ -1,13 +1,12 @@
 -- From the code's structs back to the readings: an answer with the value beside it is one reading, and all items read or a
 -- fault among them are the struct's answer and list.
 use mathlib.Core.Path.{_≡_, sym, ap, _∙_}
-use mathlib.Core.List.{List, map}
+use mathlib.Core.List.{List, map, map-id}
 use Prim.Native.Nat.{ℕ}
 use native.Mathlib.Omega.{arith}
 use lib.ListN.{replicate}
 use Rattle.sets.specs.Fill.{filled}
 use Rattle.format.specs.Fields.{Reading, got, fault}
-use Rattle.sets.specs.Reading.{map-same}
 use Rattle.feed.specs.Structs.{answered, valued}
 use Rattle.feed.specs.declared.items.Answer.{Answer}
 use Rattle.feed.specs.declared.items.Answer.the-variants.{Read, Fault}
@@ -53,4 +52,4 @@ module _ {A : Type 0} where
       (Read next ≡ answered m) × (held ≡ valued (filled n z) (replicate n z) m)
   all-got n z m held l next e h =
       let r = known-got (filled n z) (replicate n z) m l next e in
-      (r .0, h ∙ ap (filled n z) (map-same l) ∙ r .1)
+      (r .0, h ∙ ap (filled n z) (map-id l) ∙ r .1)

@@ -1,16 +1,15 @@
 -- Items as the code reads them, one by one into an array: what has been read so far, and what is still to be read.
 use mathlib.Core.Path.{_≡_, refl, sym, ap, subst, _∙_}
-use mathlib.Core.List.{List, [], _∷_, _++_, map}
+use mathlib.Core.List.{List, [], _∷_, _++_, map, map-append}
 use mathlib.Core.Option.{Option, none, some}
 use Prim.Native.Nat.{ℕ, zero, suc, _+_, _-_, _≤_, _<_}
 use native.Mathlib.Omega.{arith}
 use lib.Dec.{eqb}
 use lib.ListN.{length, set, replicate, length-append, length-map}
 use borrow.Author.Tests.{ne-eqb}
-use Rattle.sets.specs.Fill.{filled, filled-none}
+use Rattle.sets.specs.Fill.{filled, filled-none, filled-next}
 use Rattle.format.specs.Fields.{Reading, got, fault, Reader, onward, items}
 use Rattle.format.specs.Loops.{onto, onto-none, items-end, items-more, items-fault}
-use Rattle.sets.specs.Reading.{filled-more, map-join}
 use Rattle.feed.specs.Answers.{lastOf}
 
 module _ {A : Type 0} where
@@ -79,8 +78,8 @@ module _ {A S : Type 0} (item : Option A → Reader A) (form : A → S) (z : S) 
         many = omega (arith, length-append l (x ∷ []));
         holds =
             ap (λ (a : List S). set a i (form x)) (p .holds)
-            ∙ filled-more n z (map form l) i (form x) (length-map l form ∙ m) (omega arith)
-            ∙ ap (λ (a : List S). filled n z a) (sym (map-join form l (x ∷ [])));
+            ∙ filled-next n z (map form l) i (form x) (length-map l form ∙ m) (omega arith)
+            ∙ ap (λ (a : List S). filled n z a) (sym (map-append form l (x ∷ [])));
         reading =
             ap (λ (r : Reading (List A)). onto (l ++ (x ∷ [])) r) (sym (same (count - (i + 1))))
             ∙ sym (items-more item bytes l (count - (i + 1)) last place x next e)

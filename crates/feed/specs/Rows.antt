@@ -1,7 +1,7 @@
 -- The feed's rows as the code reads them: a field in the table, the rows one by one, the tests of a well formed feed, and a
 -- row that is there or not.
 use mathlib.Core.Path.{_≡_, refl, sym, ap, _∙_}
-use mathlib.Core.Bool.{Bool, true, false, not, cond, _&&_}
+use mathlib.Core.Bool.{Bool, true, false, not, cond, _&&_, and-true}
 use mathlib.Core.List.{List, [], _∷_}
 use Prim.Native.Nat.{ℕ, suc, _+_, _-_, _/_, _≤_, _<_}
 use native.Mathlib.Omega.{arith}
@@ -11,14 +11,14 @@ use lib.Seq.{take-all, take-nil}
 use borrow.Author.Tests.{le-leb, eq-eqb, ne-eqb}
 use Rattle.sets.specs.Sets.{every}
 use Rattle.sets.specs.Tests.{and-left, and-right, and-both}
-use Rattle.sets.specs.Walks.{and-true, joined-every}
+use Rattle.sets.specs.Walks.{joined-every, every-fails}
 use Rattle.format.specs.Fields.{numberAt}
 use Rattle.format.specs.Bodies.{ownKind, readBody, bodyAnswer}
 use Rattle.format.specs.Feed.{mostBytes, headBytes, feedVersion, fewestRows, mostRows, versionIn, countIn, tableEnd, kindIn, zeroIn, lengthIn, offsetIn, bodyIn, rowPlace, kindFits, rowRight, rowsRight, wellFormed, rowCount, isRow, found}
+use Rattle.format.specs.Rows.{formTests}
 use Rattle.feed.specs.Structs.{answered}
 use Rattle.feed.specs.Bodies.{ownReading, answerNumber}
 use Rattle.feed.specs.Whole.{own-told}
-use Rattle.sets.specs.Reading.{every-fails}
 use Rattle.feed.specs.Numbers.{number-behind}
 use Rattle.feed.specs.declared.items.Answer.{Answer}
 
@@ -105,18 +105,6 @@ rows-end feed count i place ok r g h e =
     sym (ap (λ (k : ℕ). ok && rowsRight feed k (i + 1) place) none-left) ∙ e
 
 -- ── well formed
-
-abbrev formTests : List ℕ → List Bool
-formTests feed =
-    leb (length feed) mostBytes
-    ∷ leb headBytes (length feed)
-    ∷ eqb (versionIn feed) feedVersion
-    ∷ leb fewestRows (countIn feed)
-    ∷ leb (countIn feed) mostRows
-    ∷ leb (tableEnd feed) (length feed)
-    ∷ rowsRight feed (countIn feed) 1 (tableEnd feed)
-    ∷ eqb (bodyAnswer (readBody ownKind (bodyIn feed 1))) 0
-    ∷ []
 
 -- a test that fails refuses the feed
 pub form-fails : (feed : List ℕ) (i : ℕ) → getD (formTests feed) i true ≡ false → false ≡ wellFormed feed

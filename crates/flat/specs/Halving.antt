@@ -14,16 +14,17 @@ use lib.Seq.{set-set, getD-take, length-take-le}
 use borrow.Author.Tests.{eqb-true, eqb-false}
 use Rattle.chain.specs.View.{zeroReference}
 use Rattle.sets.specs.Sets.{has, ascending}
+use Rattle.sets.specs.Count.{member-at}
 use Rattle.sets.specs.Tests.{T-cases}
 use Rattle.sets.specs.Order.{ascending-first, ascending-tail}
-use Rattle.sets.specs.Fill.{filled, map-turn, map-behind, map-count, take-done, take-capped}
+use Rattle.sets.specs.Fill.{map-turn, map-behind, take-capped}
 use Rattle.rules.specs.declared.Reference.{Reference}
 use Rattle.rules.specs.Chain.{sameReference, beforeReference}
 use Rattle.rules.specs.ChainLaws.{sameReference-eq, beforeReference-trans, beforeReference-irrefl, beforeReference-one}
 use Rattle.flat.specs.declared.Refs.{Refs}
 use Rattle.flat.specs.Flat.{placesOf, refsIn, seek}
-use Rattle.flat.specs.SeekLaws.{seek-found, seek-at, seek-none, seek-one, getD-member}
-use Rattle.flat.specs.Sought.{placed}
+use Rattle.flat.specs.SeekLaws.{seek-found, seek-at, seek-none, seek-one}
+use Rattle.flat.specs.Sought.{placed, all-placed}
 
 -- in an ascending list what stands earlier is before what stands later
 ascending-places :
@@ -32,7 +33,7 @@ ascending-places :
 ascending-places [] i j d a g h = absurd (not-suc-le-zero h)
 ascending-places (x ∷ l) i zero d a g h = absurd (not-suc-le-zero g)
 ascending-places (x ∷ l) zero (suc j) d a g h =
-    ascending-first beforeReference beforeReference-trans x l a (getD l j d) (getD-member l j d (le-of-suc-le-suc h))
+    ascending-first beforeReference beforeReference-trans x l a (getD l j d) (member-at l j d (le-of-suc-le-suc h))
 ascending-places (x ∷ l) (suc i) (suc j) d a g h =
     ascending-places l i j d (ascending-tail beforeReference x l a) (le-of-suc-le-suc g) (le-of-suc-le-suc h)
 
@@ -148,9 +149,7 @@ module _ (these those : List Reference) (ends stops : ℕ) (at : List ℕ) (i lo
   placed-next : (v : ℕ) → v ≡ seek sought among → Halving these those ends stops (set at i v) (i + 1) 0 stops
   placed-next v e =
       let here : set at i v ≡ placed these those stops (i + 1) =
-      over v
-      ∙ ap (λ (w : ℕ). set (placed these those stops i) i w) e
-      ∙ map-turn 128 0 (λ x. seek x among) these i zeroReference (placed these those stops i) (omega (arith, more, s .1)) (s .5) refl
+      over v ∙ map-turn 128 0 (λ x. seek x among) these i zeroReference (placed these those stops i) v (omega (arith, more, s .1)) (s .5) refl e
       in (
         omega (arith, more),
         s .1,
@@ -262,13 +261,4 @@ halving-start a b ends stops e f g h k t =
 pub halving-end :
     (a b : Refs) (ends stops : ℕ) (at : List ℕ) (i low high : ℕ) → ends ≡ min (a .count) 128 → stops ≡ min (b .count) 128 → ends ≤ i →
     Halving (a .refs) (b .refs) ends stops at i low high → record { at = at; count = ends } ≡ placesOf (map (λ x. seek x (refsIn b)) (refsIn a))
-halving-end a b ends stops at i low high e f h s =
-    let those : take stops (b .refs) ≡ refsIn b = ap (λ (n : ℕ). take n (b .refs)) f ∙ take-capped (b .refs) (b .count) 128 (omega (arith, s .6)) in
-    let done : take i (a .refs) ≡ refsIn a = take-done (a .refs) (a .count) 128 ends i (s .5) e (s .0) h in
-    let here : at ≡ filled 128 0 (map (λ x. seek x (refsIn b)) (refsIn a)) =
-    s .10 h
-    ∙ ap (λ (l : List Reference). filled 128 0 (map (λ x. seek x l) (take i (a .refs)))) those
-    ∙ ap (λ (l : List Reference). filled 128 0 (map (λ x. seek x (refsIn b)) l)) done
-    in
-    let count : ends ≡ length (map (λ x. seek x (refsIn b)) (refsIn a)) = map-count (λ x. seek x (refsIn b)) (a .refs) (a .count) 128 ends (s .5) e in
-    λ k. record { at = here k; count = count k }
+halving-end a b ends stops at i low high e f h s = all-placed a b ends stops at i e f (s .0) h (s .5) (s .6) (s .10 h)

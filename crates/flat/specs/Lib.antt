@@ -4,3 +4,4 @@ pub mod Slots
 pub mod SeekLaws
 pub mod Sought
 pub mod Halving
+pub mod Told

@@ -4,12 +4,13 @@ use Prim.Native.Nat.{ℕ, zero, suc, _≤_, _<_}
 use mathlib.Core.Path.{_≡_, refl, sym, ap, subst, _∙_}
 use mathlib.Core.Logic.{⊎-elim}
 use mathlib.Core.Bool.{true, false, not, cond, _||_}
-use mathlib.Core.List.{List, [], _∷_, List·Memᴰ, List·Memᴰ·head, List·Memᴰ·tail}
+use mathlib.Core.List.{List, [], _∷_}
 use native.Mathlib.Nat.{not-suc-le-zero, le-of-suc-le-suc}
 use native.Mathlib.Omega.{arith}
 use lib.Dec.{T, T-not, not-T, ltb, leb·zero, leb·suc-suc}
 use lib.ListN.{length, getD, take}
 use Rattle.sets.specs.Sets.{has, ascending}
+use Rattle.sets.specs.Count.{member-at}
 use Rattle.sets.specs.Tests.{or-cases, T-cases, cond-true, cond-false}
 use Rattle.sets.specs.Order.{ascending-first, ascending-tail}
 use Rattle.rules.specs.declared.Reference.{Reference}
@@ -70,12 +71,6 @@ seek-first r (x ∷ l) (suc j) d h n t =
     ])
     n
 
--- a place of a list is a member of it
-pub getD-member : (l : List Reference) (j : ℕ) (d : Reference) → j < length l → List·Memᴰ (getD l j d) l
-getD-member [] j d h = absurd (not-suc-le-zero h)
-getD-member (x ∷ l) zero d h = List·Memᴰ·head refl
-getD-member (x ∷ l) (suc j) d h = List·Memᴰ·tail (getD-member l j d (le-of-suc-le-suc h))
-
 -- in an ascending list there is one such place
 pub seek-one :
     (r : Reference) (l : List Reference) (j : ℕ) (d : Reference) → T (ascending beforeReference l) → j < length l →
@@ -85,7 +80,7 @@ seek-one r (x ∷ l) zero d a h t = cond-true (sameReference r x) 0 (suc (seek r
 seek-one r (x ∷ l) (suc j) d a h t =
     let k : j < length l = le-of-suc-le-suc h in
     let y : Reference = getD l j d in
-    let ahead : T (beforeReference x y) = ascending-first beforeReference beforeReference-trans x l a y (getD-member l j d k) in
+    let ahead : T (beforeReference x y) = ascending-first beforeReference beforeReference-trans x l a y (member-at l j d k) in
     let other : T (not (sameReference r x)) =
     not-T (sameReference r x)
     (λ (s : T (sameReference r x)).

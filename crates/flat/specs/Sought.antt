@@ -24,6 +24,20 @@ use Rattle.flat.specs.SeekLaws.{seek-first, seek-none}
 abbrev pub placed : List Reference → List Reference → ℕ → ℕ → List ℕ
 placed these those n i = filled 128 0 (map (λ x. seek x (take n those)) (take i these))
 
+-- after the last turn all are
+pub all-placed :
+    (a b : Refs) (ends stops : ℕ) (at : List ℕ) (i : ℕ) → ends ≡ min (a .count) 128 → stops ≡ min (b .count) 128 → i ≤ ends → ends ≤ i →
+    length (a .refs) ≡ 128 → length (b .refs) ≡ 128 → at ≡ placed (a .refs) (b .refs) stops i →
+    record { at = at; count = ends } ≡ placesOf (map (λ x. seek x (refsIn b)) (refsIn a))
+all-placed a b ends stops at i e f g h long wide s =
+    let those : take stops (b .refs) ≡ refsIn b = ap (λ (n : ℕ). take n (b .refs)) f ∙ take-capped (b .refs) (b .count) 128 (omega arith) in
+    let done : take i (a .refs) ≡ refsIn a = take-done (a .refs) (a .count) 128 ends i long e g h in
+    let here : at ≡ filled 128 0 (map (λ x. seek x (refsIn b)) (refsIn a)) =
+    s ∙ (λ k. filled 128 0 (map (λ x. seek x (those k)) (done k)))
+    in
+    let count : ends ≡ length (map (λ x. seek x (refsIn b)) (refsIn a)) = map-count (λ x. seek x (refsIn b)) (a .refs) (a .count) 128 ends long e in
+    λ k. record { at = here k; count = count k }
+
 -- Before a turn: the first i of these are placed, the next one is none of the first j of those, and j stands in its place.
 abbrev pub Seeking : List Reference → List Reference → ℕ → ℕ → List ℕ → ℕ → ℕ → Type 0
 Seeking these those ends stops at i j =
@@ -71,8 +85,7 @@ module _ (these those : List Reference) (ends stops : ℕ) (at : List ℕ) (i j 
     tt,
     ap (λ (a : List ℕ). set a i v) (s .7)
         ∙ set-set (placed these those stops i) i j v
-        ∙ ap (λ (w : ℕ). set (placed these those stops i) i w) e
-        ∙ map-turn 128 0 (λ x. seek x among) these i zeroReference (placed these those stops i) (omega (arith, more, s .1)) (s .4) refl
+        ∙ map-turn 128 0 (λ x. seek x among) these i zeroReference (placed these those stops i) v (omega (arith, more, s .1)) (s .4) refl e
         ∙ sym (map-behind 128 0 (λ x. seek x among) these (i + 1) (omega (arith, more, s .1, s .4))),
     λ h. refl,
   )
@@ -136,18 +149,10 @@ pub seeking-end :
     (a b : Refs) (ends stops : ℕ) (at : List ℕ) (i j : ℕ) → ends ≡ min (a .count) 128 → stops ≡ min (b .count) 128 → ends ≤ i →
     Seeking (a .refs) (b .refs) ends stops at i j → record { at = at; count = ends } ≡ placesOf (map (λ x. seek x (refsIn b)) (refsIn a))
 seeking-end a b ends stops at i j e f h s =
-    let zero-here : j ≡ 0 = s .8 h in
-    let those : take stops (b .refs) ≡ refsIn b = ap (λ (n : ℕ). take n (b .refs)) f ∙ take-capped (b .refs) (b .count) 128 (omega (arith, s .5)) in
-    let done : take i (a .refs) ≡ refsIn a = take-done (a .refs) (a .count) 128 ends i (s .4) e (s .0) h in
-    let here : at ≡ filled 128 0 (map (λ x. seek x (refsIn b)) (refsIn a)) =
-    s .7
-    ∙ ap (set (placed (a .refs) (b .refs) stops i) i) zero-here
-    ∙ map-behind 128 0 (λ x. seek x (take stops (b .refs))) (a .refs) i (omega (arith, s .0, s .1, s .4))
-    ∙ ap (λ (l : List Reference). filled 128 0 (map (λ x. seek x l) (take i (a .refs)))) those
-    ∙ ap (λ (l : List Reference). filled 128 0 (map (λ x. seek x (refsIn b)) l)) done
-    in
-    let count : ends ≡ length (map (λ x. seek x (refsIn b)) (refsIn a)) = map-count (λ x. seek x (refsIn b)) (a .refs) (a .count) 128 ends (s .4) e in
-    λ k. record { at = here k; count = count k }
+    all-placed a b ends stops at i e f (s .0) h (s .4) (s .5)
+    (s .7
+    ∙ ap (set (placed (a .refs) (b .refs) stops i) i) (s .8 h)
+    ∙ map-behind 128 0 (λ x. seek x (take stops (b .refs))) (a .refs) i (omega (arith, s .0, s .1, s .4)))
 
 -- where nothing is there to be sought in, every place is 0
 pub nothing-there :

@@ -35,15 +35,6 @@ written-little (b ∷ l) t =
     let r : writeNumber (length l) (little l) ≡ l = written-little l (and-right (isByte b) (all isByte l) t) in
     λ i. first i ∷ (ap (λ (n : ℕ). writeNumber (length l) n) rest ∙ r) i
 
--- some bytes make a number that fits them
-pub little-fits : (l : List ℕ) → T (all isByte l) → little l < 256 ^ length l
-little-fits [] t = omega arith
-little-fits (b ∷ l) t =
-    let h : b < 256 = ltb→lt b 256 (and-left (isByte b) (all isByte l) t) in
-    let p : 256 ^ suc (length l) ≡ 256 * 256 ^ length l = pow-succ' 256 (length l) in
-    let r : little l < 256 ^ length l = little-fits l (and-right (isByte b) (all isByte l) t) in
-    omega arith
-
 -- ── transaction numbers: the only laws that look inside
 
 pub numberOf-serial : (n : Number) → numberOf (serialOf n) ≡ n

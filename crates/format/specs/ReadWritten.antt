@@ -7,7 +7,7 @@ use mathlib.Core.List.{List, [], _∷_, _++_, append-nil, append-assoc}
 use mathlib.Core.Option.{Option, none, some}
 use Prim.Native.Nat.{ℕ, _+_, _^_, _≤_, _<_}
 use native.Mathlib.Omega.{arith}
-use lib.Dec.{T, not-T, eqb, leb, ltb, eqb-refl, ltb→lt, lt→ltb, leb→le, lit≤}
+use lib.Dec.{T, not-T, eqb, leb, ltb, eqb-refl, ltb→lt, lt→ltb, leb→le, le→leb, lit≤}
 use lib.ListN.{length, take, drop, length-drop, length-append}
 use lib.Seq.{drop-drop, take-at, drop-at}
 use Rattle.sets.specs.Sets.{every, all, ascending, gather}
@@ -18,6 +18,7 @@ use Rattle.rules.specs.declared.Reference.{Reference}
 use Rattle.rules.specs.declared.Output.{Output}
 use Rattle.rules.specs.Sizes.{largestAmount, mostOwn, fewestInputs, mostInputs, mostOutputs, mostTransactions}
 use Rattle.rules.specs.Chain.{sameNumber, beforeNumber, beforeReference, beforeOutput, beforeTransaction, Transaction, Block, shapedTransaction, shapedBlock, shapedOwn}
+use Rattle.rules.specs.ShapeLaws.{shaped-facts, shaped-block-facts}
 use Rattle.rules.specs.ChainLaws.{sameNumber-eq, beforeNumber-irrefl, beforeNumber-trans, beforeReference-cases}
 use Rattle.format.specs.Fields.{Reading, got, Reader, little, numberAt, field, anyNumber, done, follows, onward, _>>=_, items}
 use Rattle.format.specs.Bodies.{countWidth, indexWidth, addressWidth, amountWidth, numberWidth, numberOf, serialOf, inputNumberFollows, inputIndexFollows, outputIndexFollows, numberFollows, readAddress, readOwn, readInput, readOutput, readTransaction, readBlock, readPayment, Body, ownBody, blockBody, payBody, ownKind, blockKind, payKind, usedUp, whole, faultAt, readBody}
@@ -83,8 +84,8 @@ module _ {A : Type 0} (before : A → A → Bool) (good : A → Bool) (write : A
       (back-done (x ∷ l))))
 
 -- a count within a size fits its field
-count-fits : (n most : ℕ) → most < 256 → T (leb n most) → T (fits countWidth n)
-count-fits n most h t = lt→ltb n (256 ^ countWidth) (omega (arith, leb→le n most t, h))
+count-fits : (n most : ℕ) → most < 256 → n ≤ most → T (fits countWidth n)
+count-fits n most h t = lt→ltb n (256 ^ countWidth) (omega (arith, h))
 
 -- ── own addresses
 
@@ -98,7 +99,7 @@ back-own own s g =
     let few = and-left (leb (length own) mostOwn) (ascending ltb own) s in
     back-then (field countWidth (λ n. leb n mostOwn)) (λ count. items readAddress count none)
     (writeNumber countWidth (length own)) (gather (writeNumber addressWidth) own) (length own) own
-    (back-field countWidth (λ n. leb n mostOwn) (length own) (count-fits (length own) mostOwn (lit≤ tt) few) few)
+    (back-field countWidth (λ n. leb n mostOwn) (length own) (count-fits (length own) mostOwn (lit≤ tt) (leb→le (length own) mostOwn few)) few)
     (back-items ltb (fits addressWidth) (writeNumber addressWidth) readAddress back-address own none
     (and-right (leb (length own) mostOwn) (ascending ltb own) s)
     g)
@@ -183,23 +184,18 @@ abbrev transactionRight : Transaction → Bool
 transactionRight t = transactionFits t && shapedTransaction t
 
 back-transaction : (last : Option Transaction) (t : Transaction) → T (follows beforeTransaction last t) → T (transactionRight t) → ReadsBack (readTransaction last) (writeTransaction t) t
-unfolding readTransaction writeTransaction transactionFits shapedTransaction numberFits
+unfolding readTransaction writeTransaction transactionFits numberFits
 back-transaction last t f g =
     let ins = t .inputs in
     let outs = t .outputs in
-    let amounts = all (λ o. leb (o .amount) largestAmount) outs in
     let fitting : List Bool = fits numberWidth (serialOf (t .number)) ∷ all inputFits ins ∷ all outputFits outs ∷ [] in
-    let shape : List Bool =
-    leb fewestInputs (length ins) ∷ leb (length ins) mostInputs ∷ leb (length outs) mostOutputs
-    ∷ ascending beforeReference ins ∷ ascending beforeOutput outs ∷ amounts ∷ []
-    in
-    let fit : T (every fitting) = and-left (every fitting) (every shape) g in
-    let shaped : T (every shape) = and-right (every fitting) (every shape) g in
+    let fit : T (every fitting) = and-left (every fitting) (shapedTransaction t) g in
+    let shape = shaped-facts t (and-right (every fitting) (shapedTransaction t) g) in
     let right : T (all outputRight outs) =
     all-intro outputRight outs
     (λ o m.
     and-both (outputFits o) (leb (o .amount) largestAmount) (all-elim outputFits (every-at fitting 2 fit) m)
-    (all-elim (λ (u : Output). leb (u .amount) largestAmount) (every-at shape 5 shaped) m))
+    (all-elim (λ (u : Output). leb (u .amount) largestAmount) (shape .amountsFit) m))
     in
     let inputCountRight : ℕ → Bool = λ k. leb fewestInputs k && leb k mostInputs in
     let n = serialOf (t .number) in
@@ -213,31 +209,30 @@ back-transaction last t f g =
     (back-then (field numberWidth (follows numberFollows last)) _ (writeNumber numberWidth n) (w₂ ++ (w₃ ++ (w₄ ++ (w₅ ++ [])))) n u
     (back-field numberWidth (follows numberFollows last) n (every-at fitting 0 fit) (transaction-rule last t f))
     (back-then (field countWidth inputCountRight) _ w₂ (w₃ ++ (w₄ ++ (w₅ ++ []))) (length ins) u
-    (back-field countWidth inputCountRight (length ins) (count-fits (length ins) mostInputs (lit≤ tt) (every-at shape 1 shaped))
-    (and-both (leb fewestInputs (length ins)) (leb (length ins) mostInputs) (every-at shape 0 shaped) (every-at shape 1 shaped)))
+    (back-field countWidth inputCountRight (length ins) (count-fits (length ins) mostInputs (lit≤ tt) (shape .inputsFit))
+    (and-both (leb fewestInputs (length ins)) (leb (length ins) mostInputs) (le→leb fewestInputs (length ins) (shape .enoughInputs)) (le→leb (length ins) mostInputs (shape .inputsFit))))
     (back-then (field countWidth (λ k. leb k mostOutputs)) _ w₃ (w₄ ++ (w₅ ++ [])) (length outs) u
-    (back-field countWidth (λ k. leb k mostOutputs) (length outs) (count-fits (length outs) mostOutputs (lit≤ tt) (every-at shape 2 shaped)) (every-at shape 2 shaped))
+    (back-field countWidth (λ k. leb k mostOutputs) (length outs) (count-fits (length outs) mostOutputs (lit≤ tt) (shape .outputsFit)) (le→leb (length outs) mostOutputs (shape .outputsFit)))
     (back-then (items readInput (length ins) none) _ w₄ (w₅ ++ []) ins u
-    (back-items beforeReference inputFits writeInput readInput back-input ins none (every-at shape 3 shaped) (every-at fitting 1 fit))
+    (back-items beforeReference inputFits writeInput readInput back-input ins none (shape .inputsAscend) (every-at fitting 1 fit))
     (back-then (items readOutput (length outs) none) _ w₅ [] outs u
-    (back-items beforeOutput outputRight writeOutput readOutput back-output outs none (every-at shape 4 shaped) right)
+    (back-items beforeOutput outputRight writeOutput readOutput back-output outs none (shape .outputsAscend) right)
     (back-done u))))))
 
 -- ── blocks and payments
 
 back-block : (b : Block) → T (shapedBlock b) → T (blockFits b) → ReadsBack readBlock (writeBlock b) b
-unfolding readBlock writeBlock shapedBlock
+unfolding readBlock writeBlock
 back-block b s g =
-    let shape : List Bool = leb (length b) mostTransactions ∷ all shapedTransaction b ∷ ascending beforeTransaction b ∷ [] in
-    let few = every-at shape 0 s in
+    let shape = shaped-block-facts b s in
     let right : T (all transactionRight b) =
     all-intro transactionRight b
-    (λ t m. and-both (transactionFits t) (shapedTransaction t) (all-elim transactionFits g m) (all-elim shapedTransaction (every-at shape 1 s) m))
+    (λ t m. and-both (transactionFits t) (shapedTransaction t) (all-elim transactionFits g m) (all-elim shapedTransaction (shape .eachShaped) m))
     in
     back-then (field countWidth (λ n. leb n mostTransactions)) (λ count. items readTransaction count none)
     (writeNumber countWidth (length b)) (gather writeTransaction b) (length b) b
-    (back-field countWidth (λ n. leb n mostTransactions) (length b) (count-fits (length b) mostTransactions (lit≤ tt) few) few)
-    (back-items beforeTransaction transactionRight writeTransaction readTransaction back-transaction b none (every-at shape 2 s) right)
+    (back-field countWidth (λ n. leb n mostTransactions) (length b) (count-fits (length b) mostTransactions (lit≤ tt) (shape .blockFits)) (le→leb (length b) mostTransactions (shape .blockFits)))
+    (back-items beforeTransaction transactionRight writeTransaction readTransaction back-transaction b none (shape .blockAscends) right)
 
 back-payment : (t : Transaction) → T (shapedTransaction t) → T (transactionFits t) → ReadsBack readPayment (writePayment t) t
 unfolding readPayment

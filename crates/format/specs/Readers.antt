@@ -17,12 +17,6 @@ module _ {A : Type 0} where
   Outcome P Q (got x next) = P x next
   Outcome P Q (fault place) = Q place
 
-  pub outcome-got : (P : A → ℕ → Type 0) (Q : ℕ → Type 0) (m : Reading A) {x : A} {next : ℕ} → m ≡ got x next → Outcome P Q m → P x next
-  outcome-got P Q m e h = subst (λ (r : Reading A). Outcome P Q r) e h
-
-  pub outcome-fault : (P : A → ℕ → Type 0) (Q : ℕ → Type 0) (m : Reading A) {place : ℕ} → m ≡ fault place → Outcome P Q m → Q place
-  outcome-fault P Q m e h = subst (λ (r : Reading A). Outcome P Q r) e h
-
   pub outcome-map :
       (P : A → ℕ → Type 0) (Q : ℕ → Type 0) (P′ : A → ℕ → Type 0) (Q′ : ℕ → Type 0) (m : Reading A) →
       Outcome P Q m → ((x : A) (next : ℕ) → P x next → P′ x next) → ((place : ℕ) → Q place → Q′ place) → Outcome P′ Q′ m

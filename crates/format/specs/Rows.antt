@@ -64,7 +64,8 @@ rows-joined feed (suc count) n place t =
 
 -- ── a well formed feed
 
-abbrev formTests : List ℕ → List Bool
+-- the tests of `wellFormed`, in its order
+abbrev pub formTests : List ℕ → List Bool
 formTests feed =
     leb (length feed) mostBytes
     ∷ leb headBytes (length feed)
@@ -76,7 +77,7 @@ formTests feed =
     ∷ eqb (bodyAnswer (readBody ownKind (bodyIn feed 1))) 0
     ∷ []
 
-form-test : (feed : List ℕ) (i : ℕ) → T (wellFormed feed) → T (getD (formTests feed) i true)
+pub form-test : (feed : List ℕ) (i : ℕ) → T (wellFormed feed) → T (getD (formTests feed) i true)
 unfolding wellFormed
 form-test feed i t = every-at (formTests feed) i t
 

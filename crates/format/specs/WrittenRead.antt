@@ -3,19 +3,20 @@
 use mathlib.Core.Path.{_≡_, refl, sym, ap, subst, _∙_}
 use mathlib.Core.Logic.{⊎-elim}
 use mathlib.Core.Bool.{Bool, true, false, not, cond, _&&_}
-use mathlib.Core.List.{List, [], _∷_, _++_, append-nil}
+use mathlib.Core.List.{List, [], _++_, append-nil}
 use mathlib.Core.Option.{Option, none, some}
 use Prim.Native.Nat.{ℕ}
 use native.Mathlib.Omega.{arith}
-use lib.Dec.{T, T-not, eqb, leb, ltb, eqb→eq, ltb→lt}
+use lib.Dec.{T, T-not, eqb, leb, ltb, eqb→eq, leb→le, ltb→lt}
 use lib.ListN.{length, drop, drop-of-length-le}
-use Rattle.sets.specs.Sets.{every, all, ascending, gather}
+use Rattle.sets.specs.Sets.{all, ascending, gather}
 use Rattle.sets.specs.Tests.{and-left, and-right, and-both, or-cases, T-cases, cond-true, cond-false}
 use Rattle.rules.specs.declared.Number.{Number}
 use Rattle.rules.specs.declared.Reference.{Reference}
 use Rattle.rules.specs.declared.Output.{Output}
 use Rattle.rules.specs.Sizes.{largestAmount, mostOwn, fewestInputs, mostInputs, mostOutputs, mostTransactions}
 use Rattle.rules.specs.Chain.{sameNumber, beforeNumber, beforeReference, beforeOutput, beforeTransaction, Transaction, Block, shapedTransaction, shapedBlock, shapedOwn}
+use Rattle.rules.specs.ShapeLaws.{shaped, shaped-block}
 use Rattle.rules.specs.ChainLaws.{sameNumber-eq, beforeNumber-total, beforeReference-number, beforeReference-index}
 use Rattle.format.specs.Fields.{Reading, got, fault, Reader, field, anyNumber, done, follows, items}
 use Rattle.format.specs.Bodies.{countWidth, indexWidth, addressWidth, amountWidth, numberWidth, numberOf, serialOf, inputNumberFollows, inputIndexFollows, outputIndexFollows, numberFollows, readAddress, readOwn, readInput, readOutput, readTransaction, readBlock, readPayment, Body, ownBody, blockBody, payBody, backBody, faultAt, ownKind, blockKind, payKind, backKind, usedUp, whole, readBody, bodyAnswer}
@@ -136,20 +137,17 @@ outputCountRight k = leb k mostOutputs
 transaction-shaped : (n : Number) (inputs : List Reference) (outputs : List Output) →
     T (inputCountRight (length inputs)) → T (outputCountRight (length outputs)) → T (ascending beforeReference inputs) → T (ascending beforeOutput outputs) → T (all amountRight outputs) →
     T (shapedTransaction (record { number = n; inputs = inputs; outputs = outputs }))
-unfolding shapedTransaction
 transaction-shaped n inputs outputs i o a b v =
     let few = leb fewestInputs (length inputs) in
     let many = leb (length inputs) mostInputs in
-    let most = leb (length outputs) mostOutputs in
-    let up = ascending beforeReference inputs in
-    let out = ascending beforeOutput outputs in
-    let worth = all amountRight outputs in
-    and-both few (every (many ∷ most ∷ up ∷ out ∷ worth ∷ [])) (and-left few many i)
-    (and-both many (every (most ∷ up ∷ out ∷ worth ∷ [])) (and-right few many i)
-    (and-both most (every (up ∷ out ∷ worth ∷ [])) o
-    (and-both up (every (out ∷ worth ∷ [])) a
-    (and-both out (every (worth ∷ [])) b
-    (and-both worth true v tt)))))
+    shaped (record { number = n; inputs = inputs; outputs = outputs }) (record {
+      enoughInputs = leb→le fewestInputs (length inputs) (and-left few many i);
+      inputsFit = leb→le (length inputs) mostInputs (and-right few many i);
+      outputsFit = leb→le (length outputs) mostOutputs o;
+      inputsAscend = a;
+      outputsAscend = b;
+      amountsFit = v;
+    })
 
 reads-transaction : (last : Option Transaction) → Reads (readTransaction last) (TransactionOf last)
 unfolding readTransaction writeTransaction
@@ -192,7 +190,7 @@ abbrev BlockOf : Block → List ℕ → Type 0
 BlockOf b part = T (shapedBlock b) × Spelled part (writeBlock b)
 
 reads-block : Reads readBlock BlockOf
-unfolding readBlock shapedBlock writeBlock
+unfolding readBlock writeBlock
 reads-block =
     reads-then (FieldOf countWidth (λ n. leb n mostTransactions)) BlockOf (field countWidth (λ n. leb n mostTransactions)) (λ count. items readTransaction count none)
     (reads-field countWidth (λ n. leb n mostTransactions))
@@ -200,11 +198,8 @@ reads-block =
     reads-map (ItemsOf beforeTransaction shapedTransaction writeTransaction count none) (λ b m. BlockOf b (l ++ m)) (items readTransaction count none)
     (reads-items beforeTransaction shapedTransaction writeTransaction readTransaction reads-transaction count none)
     (λ b m d.
-    let c′ = subst (λ (n : ℕ). FieldOf countWidth (λ k. leb k mostTransactions) n l) (sym (d .0)) c in
-    let few = leb (length b) mostTransactions in
-    let shaped = all shapedTransaction b in
-    let up = ascending beforeTransaction b in (
-      and-both few (every (shaped ∷ up ∷ [])) (c′ .0) (and-both shaped (every (up ∷ [])) (d .2) (and-both up true (d .1) tt)),
+    let c′ = subst (λ (n : ℕ). FieldOf countWidth (λ k. leb k mostTransactions) n l) (sym (d .0)) c in (
+      shaped-block b (record { blockFits = leb→le (length b) mostTransactions (c′ .0); eachShaped = d .2; blockAscends = d .1 }),
       spelled-join l m (writeNumber countWidth (length b)) (gather writeTransaction b) (c′ .1) (d .3),
     )))
 

@@ -18,7 +18,7 @@ use Rattle.pool.specs.LayoutLaws.{good-laid-out}
 use Rattle.format.specs.Bodies as Format
 use Rattle.format.specs.Bodies.{ownBody, blockBody, payBody, backBody, faultAt, readBody}
 use Rattle.feed.specs.Bodies.{bodyRead}
-use Rattle.feed.specs.Promises.{read-body-good}
+use Rattle.feed.specs.Promises.{read-body-good, ordinal}
 use Rattle.feed.specs.declared.bodies.Own.{Own}
 use Rattle.feed.specs.declared.bodies.BodyRead.{BodyRead}
 use Rattle.feed.specs.declared.bodies.Body.{Body}
@@ -55,13 +55,6 @@ pub own-fits : (b : Format.Body) (read : BodyRead) → read ≡ bodyRead b → O
 own-fits b read e = subst (λ (r : BodyRead). OwnFits (r .own)) (sym e) (own-fits-of b)
 
 -- a rollback and a fault are told apart by their number alone
-ordinal : Body → ℕ
-ordinal Is.Own = 0
-ordinal Is.Block = 1
-ordinal Is.Payment = 2
-ordinal Is.Rollback = 3
-ordinal (Is.Fault place) = 4
-
 is-rollback : (b : Format.Body) → ordinal (bodyRead b .body) ≡ 3 → b ≡ backBody
 unfolding ordinal
 is-rollback (ownBody l) h = absurd (omega (arith, h))

@@ -1,25 +1,26 @@
 -- How long a sheet can be: a head line and at most 256 lines, none longer than 94 bytes.
-use Prim.Native.Nat.{ℕ, zero, suc, _+_, _*_, _≤_}
+use Prim.Native.Nat.{ℕ, suc, _+_, _*_, _≤_}
 use mathlib.Core.Path.{ap}
-use mathlib.Core.Bool.{Bool, true, false, cond}
+use mathlib.Core.Bool.{true, false, cond}
 use mathlib.Core.List.{List, [], _∷_, _++_}
 use native.Mathlib.Omega.{arith}
 use lib.Dec.{T, eqb, leb, leb→le}
 use lib.IntN.{ℤ, pos, negsuc, natAbs}
 use lib.ListN.{length, length-append}
 use Rattle.sets.specs.Sets.{all, gather}
-use Rattle.sets.specs.Tests.{and-left, and-right, every-at}
+use Rattle.sets.specs.Tests.{and-left, and-right}
 use Rattle.rules.specs.Sizes.{largestAmount, mostReferences}
 use Rattle.rules.specs.Chain.{shapedOwn}
 use Rattle.rules.specs.States.{Wallet, opened}
 use Rattle.rules.specs.Sound.{sound}
 use Rattle.rules.specs.Steps.{Refusal, Step, answerOf, stepTo, paymentRefusals, blockRefusals, rollbackRefusals, opening, block, pay, rollBack}
 use Rattle.rules.specs.Calls.{blockCall, payCall, backCall}
+use Rattle.rules.specs.StepLaws.{answer-of-step}
 use Rattle.soundness.specs.Kept.{opening-sound, step-sound}
 use Rattle.soundness.specs.Bounds.{available-bound, total-bound, minimum-bound, movement-bound}
-use Rattle.format.specs.Bodies.{Body, ownKind, readBody, bodyAnswer, ownBody, blockBody, payBody, backBody, faultAt}
-use Rattle.format.specs.Feed.{mostBytes, headBytes, feedVersion, fewestRows, mostRows, versionIn, countIn, tableEnd, bodyIn, rowsRight, wellFormed, rowCount, Event, events}
-use Rattle.format.specs.Rows.{count-of-formed}
+use Rattle.format.specs.Bodies.{Body, ownBody, blockBody, payBody, backBody, faultAt}
+use Rattle.format.specs.Feed.{mostRows, countIn, wellFormed, rowCount, Event, events}
+use Rattle.format.specs.Rows.{count-of-formed, form-test}
 use Rattle.lines.specs.Sheet.{signed, kindWord, ownWord, blockWord, payWord, backWord, headLine, refusedLine, lineText, eventStep, eventLine, linesFrom, sheet}
 use Rattle.lines.specs.Decimals.{decimal-few}
 use Rattle.lines.specs.Text.{line-parts}
@@ -60,8 +61,7 @@ answer-of (r ∷ l) t =
     ]
 
 step-answer : (n : ℕ) (old new : Wallet) → n ≤ 9 → stepTo n old new .answer ≤ 9
-step-answer zero old new h = omega arith
-step-answer (suc n) old new h = h
+step-answer n old new h = omega (arith, answer-of-step n old new)
 
 -- what a line needs of a step
 record Fine (s : Step) : Type 0 where
@@ -137,27 +137,14 @@ lines-few row w (e ∷ l) t h =
 
 -- ── the sheet
 
--- what a well formed feed's head and table have to pass
-abbrev tests : List ℕ → List Bool
-tests feed =
-    leb (length feed) mostBytes
-    ∷ leb headBytes (length feed)
-    ∷ eqb (versionIn feed) feedVersion
-    ∷ leb fewestRows (countIn feed)
-    ∷ leb (countIn feed) mostRows
-    ∷ leb (tableEnd feed) (length feed)
-    ∷ rowsRight feed (countIn feed) 1 (tableEnd feed)
-    ∷ eqb (bodyAnswer (readBody ownKind (bodyIn feed 1))) 0
-    ∷ []
-
 rows-few : (feed : List ℕ) → T (wellFormed feed) → length (events feed) ≤ mostRows
-unfolding events wellFormed
+unfolding events
 rows-few feed t =
     omega (
       arith,
       events-length feed (rowCount feed),
       count-of-formed feed t,
-      leb→le (countIn feed) mostRows (every-at (tests feed) 4 t),
+      leb→le (countIn feed) mostRows (form-test feed 4 t),
     )
 
 none-sound : T (sound (opened []))

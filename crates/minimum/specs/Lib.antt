@@ -7,7 +7,6 @@ pub mod Found
 pub mod Settling
 pub mod Choices
 pub mod Bringing
-pub mod Listed
 pub mod Standing
 pub mod StandingLaws
 pub mod Rows

@@ -1,15 +1,15 @@
--- The available and the total balance as sums over the pool: over the available places, and over the own outputs of
--- pending payments that no pending payment takes and no available place has.
+-- The total balance as the available balance and a sum over the pool: over the own outputs of pending payments that no
+-- pending payment takes and no available place has.
 use Prim.Native.Nat.{ℕ, _+_}
 use mathlib.Core.Path.{_≡_, refl, sym, ap, subst, _∙_}
 use mathlib.Core.Bool.{Bool, not, _&&_}
 use mathlib.Core.List.{List, _++_, List·Memᴰ·head}
 use lib.Dec.{T}
-use Rattle.sets.specs.Sets.{any, has, keep, total, ascending, once}
+use Rattle.sets.specs.Sets.{any, has, keep, ascending, once}
 use Rattle.sets.specs.Tests.{same-test}
 use Rattle.sets.specs.Laws.{keep-same, keep-keep, total-append}
 use Rattle.sets.specs.Order.{ascending-keep, ascending-once}
-use Rattle.sets.specs.Once.{total-map, once-append}
+use Rattle.sets.specs.Once.{once-append}
 use Rattle.sets.specs.Maps.{any-map, any-keep, any-same}
 use Rattle.sets.specs.Picks.{pick-ascending}
 use Rattle.rules.specs.declared.Entry.{Entry}
@@ -28,11 +28,6 @@ use Rattle.pool.specs.Good.{laidOut, good}
 use Rattle.pool.specs.LayoutLaws.{laid-out-facts, good-laid-out, good-sound}
 use Rattle.pool.specs.MadeLaws.{made-ascending}
 use Rattle.pool.specs.RefusalLaws.{isAvailable, standsAvailable, available-places}
-
--- the available balance is the sum over the available places
-pub available-pool : (w : Pool) → availableBalance (view w .present) ≡ total (λ h. h .entry .amount) (keep (isAvailable (paymentsOf w)) (entriesOf w))
-unfolding availableBalance
-available-pool w = ap worth (available-places w) ∙ total-map (λ e. e .amount) (λ h. h .entry) (keep (isAvailable (paymentsOf w)) (entriesOf w))
 
 -- ── change
 

@@ -182,11 +182,11 @@ payments-counted w f = length-take-le (w .paying) (w .payments) (omega (arith, f
 
 -- ── a pool with other places
 
-zero-held : T (noHeld zeroHeld)
+pub zero-held : T (noHeld zeroHeld)
 unfolding sameNumber
 zero-held = tt
 
-zero-payment : T (noPayment zeroPayment)
+pub zero-payment : T (noPayment zeroPayment)
 unfolding sameNumber noTransaction
 zero-payment = tt
 

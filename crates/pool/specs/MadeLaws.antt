@@ -10,15 +10,16 @@ use Rattle.rules.specs.declared.Entry.{Entry}
 use Rattle.rules.specs.Chain as Chain
 use Rattle.rules.specs.Chain.{beforeNumber, beforeEntry, beforeOutput, beforeTransaction, entryOf, makes, made, isOwn, shapedTransaction, shapedBlock}
 use Rattle.rules.specs.ChainLaws.{beforeReference-number, beforeReference-index}
+use Rattle.rules.specs.ShapeLaws.{shaped-facts, shaped-block-facts}
 use Rattle.rules.specs.States.{ownMade}
 use Rattle.soundness.specs.Orders.{beforeEntry-trans, beforeTransaction-trans}
-use Rattle.soundness.specs.Made.{shaped-outputs-ascend, block-transactions-shaped, block-numbers-ascend, makes-number}
+use Rattle.soundness.specs.Made.{block-transactions-shaped, makes-number}
 
 makes-ascending : (t : Chain.Transaction) → T (shapedTransaction t) → T (ascending beforeEntry (makes t))
 makes-ascending t h =
     ascending-mapped beforeOutput beforeEntry (entryOf (t .number))
     (λ x y k. beforeReference-index (entryOf (t .number) x .reference) (entryOf (t .number) y .reference) refl (ltb→lt (x .index) (y .index) k))
-    (t .outputs) (shaped-outputs-ascend t h)
+    (t .outputs) (shaped-facts t h .outputsAscend)
 
 made-in-order : (t u : Chain.Transaction) (e f : Entry) → T (beforeTransaction t u) → List·Memᴰ e (makes t) → List·Memᴰ f (makes u) → T (beforeEntry e f)
 made-in-order t u e f h m n =
@@ -38,4 +39,4 @@ made-ascending l t shaped =
 pub own-made-ascending : (own : List ℕ) (b : Chain.Block) → T (shapedBlock b) → T (ascending beforeEntry (ownMade own b))
 own-made-ascending own b h =
     ascending-keep beforeEntry beforeEntry-trans (isOwn own) (made b)
-    (made-ascending b (block-numbers-ascend b h) (block-transactions-shaped b h))
+    (made-ascending b (shaped-block-facts b h .blockAscends) (block-transactions-shaped b h))

@@ -1,32 +1,28 @@
 -- Laws of mark words: what raising and lowering do to each mark, and that a word is its marks.
 use Prim.Native.Nat.{ℕ, zero, suc, _+_, _*_, _/_, _%_, _^_, _<_}
-use mathlib.Core.Path.{_≡_, refl, sym, ap, subst, _∙_}
+use mathlib.Core.Path.{_≡_, refl, ap, subst, _∙_}
 use mathlib.Core.Logic.{⊎-elim}
-use mathlib.Core.Bool.{Bool, true, false, not, _&&_}
+use mathlib.Core.Bool.{Bool, false, not, _&&_}
 use native.Mathlib.Nat.{not-suc-le-zero, le-of-suc-le-suc, pow-suc}
 use lib.Arith.{mod-mul}
 use lib.Pow.{pow-pos}
 use native.Mathlib.Omega.{arith}
 use lib.Dec.{T, T-not, eqb, eqb→eq, not-T}
-use Rattle.sets.specs.Tests.{T-cases, equal-holds, is-true, is-false, and-left, and-right, and-both}
+use Rattle.sets.specs.Tests.{T-cases, neqb→ne, ne→neqb, and-left, and-right, and-both}
+use Rattle.sets.specs.Fill.{flag-most}
+use Rattle.sets.specs.Words.{bit-low, bit-rest, digit-set, digit-clear}
+use Rattle.sets.specs.Marks.{half-fits}
 use Rattle.pool.specs.Marks.{marked, bit, raised, lowered, apartMarks}
 
-bit-small : (b : Bool) → bit b < 2
-bit-small true = omega arith
-bit-small false = omega arith
-
-eqb-false : (m n : ℕ) → (m ≡ n → ⊥) → eqb m n ≡ false
-eqb-false m n f = is-false (eqb m n) (not-T (eqb m n) (λ t. f (eqb→eq m n t)))
-
-eqb-true : (m n : ℕ) → m ≡ n → eqb m n ≡ true
-eqb-true m n e = is-true (eqb m n) (equal-holds m n e)
+-- a mark put under the others, as raising and lowering count it
+turned : (n : ℕ) (b : Bool) → n * 2 + bit b ≡ bit b + 2 * n
+turned n b = omega arith
 
 bit-odd : (n : ℕ) (b : Bool) → marked 0 (n * 2 + bit b) ≡ b
-bit-odd n true = eqb-true ((n * 2 + 1) % 2) 1 (omega arith)
-bit-odd n false = eqb-false ((n * 2 + 0) % 2) 1 (λ e. omega arith)
+bit-odd n b = ap (marked 0) (turned n b) ∙ bit-low b n
 
 bit-half : (n : ℕ) (b : Bool) → (n * 2 + bit b) / 2 ≡ n
-bit-half n b = omega (arith, bit-small b)
+bit-half n b = ap (λ (m : ℕ). m / 2) (turned n b) ∙ bit-rest b n
 
 -- no mark in 0, and one in 1
 pub marked-zero : (k : ℕ) → marked k 0 ≡ false
@@ -80,38 +76,24 @@ lowered-below k m b =
 pub one-fits : (n : ℕ) → 1 < 2 ^ suc n
 one-fits n = omega (arith, pow-suc 2 n, pow-pos n)
 
-pub half-fits : (n m : ℕ) → m < 2 ^ suc n → m / 2 < 2 ^ n
-half-fits n m h = omega (arith, pow-suc 2 n)
-
 pub raised-fits : (n m : ℕ) (b : Bool) → m < 2 ^ n → raised m b < 2 ^ suc n
-raised-fits n m b h = omega (arith, pow-suc 2 n, bit-small b)
+raised-fits n m b h = omega (arith, pow-suc 2 n, flag-most b)
 
 -- never more than eight states
 pub raised-eight : (m : ℕ) (b : Bool) → raised m b < 2 ^ 8
-raised-eight m b = omega (arith, bit-small b)
+raised-eight m b = omega (arith, flag-most b)
 
 pub lowered-fits : (n m : ℕ) (b : Bool) → m < 2 ^ suc (suc n) → lowered m b < 2 ^ suc n
-lowered-fits n m b h = omega (arith, pow-suc 2 n, pow-suc 2 (suc n), bit-small b)
+lowered-fits n m b h = omega (arith, pow-suc 2 n, pow-suc 2 (suc n), flag-most b)
 
 -- ── a word is its marks
 
 odd-same : (a b : ℕ) → marked 0 a ≡ marked 0 b → a % 2 ≡ b % 2
 odd-same a b e =
     ⊎-elim
-    (λ (t : T (eqb (a % 2) 1)).
-    omega (arith, eqb→eq (a % 2) 1 t, eqb→eq (b % 2) 1 (subst (λ (c : Bool). T c) e t)))
-    (λ (t : T (not (eqb (a % 2) 1))).
-    let f : a % 2 ≡ 1 → ⊥ = λ q. T-not (eqb (a % 2) 1) t (subst (λ (k : ℕ). T (eqb k 1)) (sym q) tt) in
-    let g : b % 2 ≡ 1 → ⊥ =
-    λ q. T-not (eqb (b % 2) 1) (subst (λ (c : Bool). T (not c)) e t) (subst (λ (k : ℕ). T (eqb k 1)) (sym q) tt)
-    in
-    zeros (a % 2) (b % 2) (omega arith) (omega arith) f g)
-    (T-cases (eqb (a % 2) 1))
-  where
-    zeros : (x y : ℕ) → x < 2 → y < 2 → (x ≡ 1 → ⊥) → (y ≡ 1 → ⊥) → x ≡ y
-    zeros zero zero h k f g = refl
-    zeros zero (suc y) h k f g = absurd (g (omega arith))
-    zeros (suc x) y h k f g = absurd (f (omega arith))
+    (λ (t : T (marked 0 a)). omega (arith, digit-set a t, digit-set b (subst (λ (c : Bool). T c) e t)))
+    (λ (t : T (not (marked 0 a))). omega (arith, digit-clear a t, digit-clear b (subst (λ (c : Bool). T (not c)) e t)))
+    (T-cases (marked 0 a))
 
 pub word-one : (n a b : ℕ) → a < 2 ^ n → b < 2 ^ n → ((k : ℕ) → k < n → marked k a ≡ marked k b) → a ≡ b
 word-one zero a b h k f = omega arith
@@ -122,32 +104,18 @@ word-one (suc n) a b h k f =
     in
     omega arith
 
--- a word without a mark is 0
-pub word-none : (n a : ℕ) → a < 2 ^ n → ((k : ℕ) → k < n → marked k a ≡ false) → a ≡ 0
-word-none n a h f = word-one n a 0 h (pow-pos n) (λ k q. f k q ∙ sym (marked-zero k))
-
 -- a word that is not 0 has a mark
 pub word-some : (n a : ℕ) → a < 2 ^ n → T (not (eqb a 0)) → (k : ℕ) × (k < n) × T (marked k a)
-word-some zero a h t = absurd (T-not (eqb a 0) t (subst (λ (k : ℕ). T (eqb k 0)) (sym (zero-word a h)) tt))
-  where
-    zero-word : (x : ℕ) → x < 2 ^ 0 → x ≡ 0
-    zero-word x q = omega arith
+word-some zero a h t = absurd (neqb→ne a 0 t (omega arith))
 word-some (suc n) a h t =
     ⊎-elim
     (λ (p : T (marked 0 a)). (0, omega arith, p))
     (λ (p : T (not (marked 0 a))).
-    let even : a % 2 ≡ 1 → ⊥ = λ q. T-not (marked 0 a) p (subst (λ (k : ℕ). T (eqb k 1)) (sym q) tt) in
-    let some : T (not (eqb (a / 2) 0)) =
-    not-T (eqb (a / 2) 0)
-    (λ z. T-not (eqb a 0) t (subst (λ (k : ℕ). T (eqb k 0)) (sym (whole (a % 2) (a / 2) (omega arith) even (eqb→eq (a / 2) 0 z) (omega arith))) tt))
-    in
+    let even : a % 2 ≡ 0 = digit-clear a p in
+    let some : T (not (eqb (a / 2) 0)) = ne→neqb (a / 2) 0 (λ (z : a / 2 ≡ 0). neqb→ne a 0 t (omega arith)) in
     let r = word-some n (a / 2) (half-fits n a h) some in
     (suc (r .0), omega (arith, r .1), r .2))
     (T-cases (marked 0 a))
-  where
-    whole : (x y : ℕ) → x < 2 → (x ≡ 1 → ⊥) → y ≡ 0 → a ≡ y * 2 + x → a ≡ 0
-    whole zero y h f z e = omega arith
-    whole (suc x) y h f z e = absurd (f (omega arith))
 
 -- a mark stands only in a word that is large enough
 pub marked-fits : (n k a : ℕ) → a < 2 ^ n → T (marked k a) → k < n

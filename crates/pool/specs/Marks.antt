@@ -1,16 +1,7 @@
 -- Mark words: one bit for each held state, bit 0 for the present one.
 use Prim.Native.Nat.{ℕ, zero, suc, _+_, _*_, _/_, _%_}
-use mathlib.Core.Bool.{Bool, true, false, not, _&&_}
-use lib.Dec.{eqb}
-
--- mark k of a word
-abbrev pub marked : ℕ → ℕ → Bool
-marked zero m = eqb (m % 2) 1
-marked (suc k) m = marked k (m / 2)
-
-abbrev pub bit : Bool → ℕ
-bit true = 1
-bit false = 0
+use mathlib.Core.Bool.{Bool, true, not, _&&_}
+pub use Rattle.sets.specs.Words.{marked, bit}
 
 -- One state more: all marks go up by one, that of the eighth state falls off, and the present mark is new.
 abbrev pub raised : ℕ → Bool → ℕ

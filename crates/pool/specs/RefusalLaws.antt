@@ -1,30 +1,29 @@
 -- What the rules ask of a wallet's view, asked of the pool: all that the held states hold is all that the pool holds,
--- and each test of a refusal is a test of the used places.
+-- the tests of refusals 2, 6 and 8 are tests of the used places, and so is what is available.
 use Prim.Native.Nat.{ℕ, zero, suc}
 use mathlib.Core.Path.{_≡_, refl, sym, ap, _∙_}
 use mathlib.Core.Bool.{Bool, not, _&&_, _||_}
 use mathlib.Core.List.{List, map}
 use lib.ListN.{take}
-use lib.Dec.{T, eqb, leb, eqb·suc-zero}
-use Rattle.sets.specs.Sets.{any, all, has, keep, total}
+use lib.Dec.{T, eqb, eqb·suc-zero}
+use Rattle.sets.specs.Sets.{any, all, has, keep}
 use Rattle.sets.specs.Laws.{keep-keep}
-use Rattle.sets.specs.Once.{total-map}
-use Rattle.sets.specs.Maps.{any-map, any-keep, any-same, all-same, any-seen, all-seen, keep-map}
+use Rattle.sets.specs.Maps.{all-same, any-seen, all-seen, keep-map}
 use Rattle.rules.specs.declared.Number.{Number}
 use Rattle.rules.specs.declared.Reference.{Reference}
 use Rattle.rules.specs.declared.Entry.{Entry}
 use Rattle.rules.specs.Chain as Chain
-use Rattle.rules.specs.Chain.{sameNumber, sameReference, sameEntry, made, spent, worth}
+use Rattle.rules.specs.Chain.{sameNumber, sameReference, made, spent}
 use Rattle.rules.specs.Balances.{available}
 use Rattle.rules.specs.Sound.{heldEntries, heldPayments, agree, agreeing}
-use Rattle.rules.specs.Steps.{numberTaken, inputMissing, paysTooMuch, alreadyUnspent, contradicts, onlyOne}
+use Rattle.rules.specs.Steps.{numberTaken, contradicts, onlyOne}
 use Rattle.chain.specs.View as ChainView
 use Rattle.chain.specs.View.{viewTransaction}
 use Rattle.pool.specs.declared.Held.{Held}
 use Rattle.pool.specs.declared.Payment.{Payment}
 use Rattle.pool.specs.declared.Pool.{Pool}
 use Rattle.pool.specs.Marks.{marked}
-use Rattle.pool.specs.View.{entriesOf, paymentsOf, utxoAt, pendingAt, statesFrom, viewOf, view}
+use Rattle.pool.specs.View.{entriesOf, paymentsOf, pendingAt, statesFrom, viewOf, view}
 use Rattle.pool.specs.Good.{heldFits, paymentFits, laidOut}
 use Rattle.pool.specs.LayoutLaws.{laid-out-facts}
 use Rattle.pool.specs.RoomLaws.{held-entry-place, place-entry-held, held-payment-place, place-payment-held}
@@ -68,17 +67,6 @@ number-taken w t n =
     in
     λ i. p i || e i
 
--- 5: a place of the present UTxO has the reference of an output
-pub already-unspent :
-    (w : Pool) (b : Chain.Block) →
-    alreadyUnspent (view w .present) b ≡ any (λ e. any (λ h. sameEntry e (h .entry) && marked 0 (h .utxo)) (entriesOf w)) (made b)
-unfolding alreadyUnspent
-already-unspent w b =
-    any-same (λ e. has sameEntry e (utxoAt 0 (entriesOf w))) (λ e. any (λ h. sameEntry e (h .entry) && marked 0 (h .utxo)) (entriesOf w)) (made b)
-    (λ e m.
-    any-map (sameEntry e) (λ h. h .entry) (keep (λ h. marked 0 (h .utxo)) (entriesOf w))
-    ∙ any-keep (λ h. sameEntry e (h .entry)) (λ h. marked 0 (h .utxo)) (entriesOf w))
-
 -- 6: an output disagrees with a place's entry, or a transaction with a payment
 pub contradicts-pool :
     (w : Pool) → T (laidOut w) → (b : Chain.Block) →
@@ -112,36 +100,6 @@ available-places w =
     let free : Entry → Bool = λ e. not (has sameReference (e .reference) (spent (pendingAt 0 (paymentsOf w)))) in
     keep-map free (λ h. h .entry) (keep (λ h. marked 0 (h .utxo)) (entriesOf w))
     ∙ ap (map (λ h. h .entry)) (keep-keep (λ h. free (h .entry)) (λ h. marked 0 (h .utxo)) (entriesOf w))
-
--- 3: an input is not that of an available place
-pub input-missing :
-    (w : Pool) (p : Chain.Transaction) →
-    inputMissing (view w .present) p ≡ not (all (standsAvailable (entriesOf w) (paymentsOf w)) (p .inputs))
-unfolding inputMissing
-input-missing w p =
-    ap not
-    (all-same (λ i. any (λ e. sameReference i (e .reference)) (available (view w .present))) (standsAvailable (entriesOf w) (paymentsOf w)) (p .inputs)
-    (λ i m.
-    ap (any (λ e. sameReference i (e .reference))) (available-places w)
-    ∙ any-map (λ e. sameReference i (e .reference)) (λ h. h .entry) (keep (isAvailable (paymentsOf w)) (entriesOf w))
-    ∙ any-keep (λ h. sameReference i (h .entry .reference)) (isAvailable (paymentsOf w)) (entriesOf w)))
-
--- 4: the outputs sum to more than the available places whose reference is an input
-pub pays-too-much :
-    (w : Pool) (p : Chain.Transaction) →
-    paysTooMuch (view w .present) p
-    ≡ not
-    (leb (total (λ o. o .amount) (p .outputs))
-    (total (λ h. h .entry .amount)
-    (keep (λ h. isAvailable (paymentsOf w) h && has sameReference (h .entry .reference) (p .inputs)) (entriesOf w))))
-unfolding paysTooMuch
-pays-too-much w p =
-    let taken : Entry → Bool = λ e. has sameReference (e .reference) (p .inputs) in
-    ap (λ (k : ℕ). not (leb (total (λ o. o .amount) (p .outputs)) k))
-    (ap (λ (l : List Entry). worth (keep taken l)) (available-places w)
-    ∙ ap worth (keep-map taken (λ h. h .entry) (keep (isAvailable (paymentsOf w)) (entriesOf w)))
-    ∙ total-map (λ e. e .amount) (λ h. h .entry) (keep (λ h. taken (h .entry)) (keep (isAvailable (paymentsOf w)) (entriesOf w)))
-    ∙ ap (total (λ h. h .entry .amount)) (keep-keep (λ h. taken (h .entry)) (isAvailable (paymentsOf w)) (entriesOf w)))
 
 -- 8: no state lies below the present one
 pub only-one : (w : Pool) → onlyOne (view w .below) ≡ eqb (w .below) 0

@@ -10,8 +10,8 @@ use Rattle.sets.specs.Sets.{all, keep, ascending}
 use Rattle.sets.specs.Tests.{or-left, or-right}
 use Rattle.sets.specs.Laws.{together-append, all-intro, all-elim, keep-from, keep-holds, keep-same, keep-length, map-elim}
 use Rattle.sets.specs.Order.{ascending-mapped, ascending-keep}
-use Rattle.sets.specs.Walks.{all-map}
-use Rattle.sets.specs.Maps.{map-keep-map, map-keep-wider}
+use Rattle.sets.specs.Marks.{half-fits}
+use Rattle.sets.specs.Maps.{all-map, map-keep-map, map-keep-wider}
 use Rattle.sets.specs.Picks.{pick-without, pick-together}
 use Rattle.rules.specs.declared.Entry.{Entry}
 use Rattle.rules.specs.Chain as Chain
@@ -25,7 +25,7 @@ use Rattle.pool.specs.declared.Held.{Held}
 use Rattle.pool.specs.declared.Payment.{Payment}
 use Rattle.pool.specs.declared.Pool.{Pool}
 use Rattle.pool.specs.Marks.{marked, lowered}
-use Rattle.pool.specs.MarkLaws.{marked-some, lowered-present, lowered-below, half-fits, lowered-fits, word-some}
+use Rattle.pool.specs.MarkLaws.{marked-some, lowered-present, lowered-below, lowered-fits, word-some}
 use Rattle.pool.specs.View.{entriesOf, paymentsOf, utxoAt, expectedAt, pendingAt, statesFrom, viewOf, view}
 use Rattle.pool.specs.Good.{beforeHeld, beforePayment, heldFits, paymentFits, laidOut, good}
 use Rattle.pool.specs.Book.{heldMarked, heldAfterRollback, entriesAfterRollback, paymentAfterRollback, paymentsAfterRollback, withPool, bookRollback}
@@ -195,7 +195,7 @@ still-pending n m h t = let k = word-some n m h t in at (k .0) (k .2)
 pub rollback-payments-fit : (n : ℕ) (ps : List Payment) → T (all (paymentFits (suc (suc n))) ps) → T (all (paymentFits (suc n)) (paymentsAfterRollback ps))
 unfolding paymentsAfterRollback
 rollback-payments-fit n ps t =
-    subst (λ (b : Bool). T b) (sym (all-map paymentAfterRollback (paymentFits (suc n)) ps))
+    subst (λ (b : Bool). T b) (sym (all-map (paymentFits (suc n)) paymentAfterRollback ps))
     (all-intro (λ p. paymentFits (suc n) (paymentAfterRollback p)) ps
     (λ p m.
     let fits : T (paymentFits (suc (suc n)) p) = all-elim (paymentFits (suc (suc n))) t m in

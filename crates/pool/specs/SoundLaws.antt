@@ -32,9 +32,9 @@ use Rattle.pool.specs.LayoutLaws.{LaidOut, laid-out-facts, entries-count
 use Rattle.pool.specs.PlaceLaws.{entryIn, paymentIn, held-once, payment-once, held-utxo-fits}
 use Rattle.pool.specs.RoomLaws.{utxo-ascending, expected-ascending, pending-ascending, states-count, state-elim, state-intro, held-entry-place, place-entry-held, held-payment-place, place-payment-held, references-count, payments-count}
 
--- the clauses of `poolSound`, in its order
-abbrev clauses : Pool → List Bool
-clauses w =
+-- the tests of `poolSound`, in its order
+abbrev pub soundTests : Pool → List Bool
+soundTests w =
     shapedOwn (take (w .owns) (w .own))
     ∷ all (λ h. leb (h .entry .amount) largestAmount) (entriesOf w)
     ∷ all (λ h. isOwn (take (w .owns) (w .own)) (h .entry)) (entriesOf w)
@@ -83,7 +83,7 @@ view-apart w f g h m =
 view-sound-pool : (w : Pool) → LaidOut w → Sound (view w) → T (poolSound w)
 unfolding poolSound
 view-sound-pool w f g =
-    every-holds (clauses w) (
+    every-holds (soundTests w) (
       g .own-shaped,
       (
         all-intro (λ h. leb (h .entry .amount) largestAmount) (entriesOf w)
@@ -121,7 +121,7 @@ pool-apart w f t k q e d m n s =
     let b = picked-elim (λ (h : Held). marked k (h .expected)) entryIn (entriesOf w) n in
     let c : a .0 ≡ b .0 = held-once (entriesOf w) (f .entries-ascend) (a .0) (b .0) (a .1) (b .1) (same-at (a .3) (b .3) s) in
     apart-elim mostStates (a .0 .utxo) (a .0 .expected) k
-    (all-elim (λ (h : Held). apartMarks mostStates (h .utxo) (h .expected)) (every-at (clauses w) 3 t) (a .1))
+    (all-elim (λ (h : Held). apartMarks mostStates (h .utxo) (h .expected)) (every-at (soundTests w) 3 t) (a .1))
     (omega (arith, f .few-below))
     (a .2)
     (subst (λ (h : Held). T (marked k (h .expected))) (sym c) (b .2))
@@ -156,8 +156,8 @@ pool-sound-view w f t =
           let h = held-place w e m in
           leb→le (e .amount) largestAmount
           (holds-at (λ (x : Entry). leb (x .amount) largestAmount) (h .0 .entry) e (sym (h .2))
-          (all-elim (λ (x : Held). leb (x .entry .amount) largestAmount) (every-at (clauses w) 1 t) (h .1)));
-      own-shaped = every-at (clauses w) 0 t;
+          (all-elim (λ (x : Held). leb (x .entry .amount) largestAmount) (every-at (soundTests w) 1 t) (h .1)));
+      own-shaped = every-at (soundTests w) 0 t;
       utxo-ascending =
           each-state w (λ s. T (ascending beforeEntry (s .utxo))) (λ k q. utxo-ascending k es (f .entries-ascend));
       pending-ascending =
@@ -168,12 +168,12 @@ pool-sound-view w f t =
           λ q m.
           let p = pending-place w q m in
           holds-at shapedTransaction (paymentIn (p .0)) q (sym (p .2))
-          (all-elim (λ (x : Payment). shapedTransaction (paymentIn x)) (every-at (clauses w) 4 t) (p .1));
+          (all-elim (λ (x : Payment). shapedTransaction (paymentIn x)) (every-at (soundTests w) 4 t) (p .1));
       entries-own =
           λ e m.
           let h = held-place w e m in
           holds-at (isOwn own) (h .0 .entry) e (sym (h .2))
-          (all-elim (λ (x : Held). isOwn own (x .entry)) (every-at (clauses w) 2 t) (h .1));
+          (all-elim (λ (x : Held). isOwn own (x .entry)) (every-at (soundTests w) 2 t) (h .1));
       apart =
           each-state w (λ s. (e d : Entry) → List·Memᴰ e (s .utxo) → List·Memᴰ d (s .expected) → T (sameEntry e d) → ⊥)
           (pool-apart w f t);
@@ -204,7 +204,7 @@ pool-sound-view w f t =
           agree-equal o e
           (holds-at (agree o) (h .0 .entry) e (sym (h .2))
           (all-elim (λ (x : Held). agree o (x .entry))
-          (all-elim (λ (x : Entry). all (λ h. agree x (h .entry)) es) (every-at (clauses w) 5 t)
+          (all-elim (λ (x : Entry). all (λ h. agree x (h .entry)) es) (every-at (soundTests w) 5 t)
           (gather-intro makes (Memᴰ·cast (p .2) (map-intro paymentIn (p .1))) (r .2)))
           (h .1)))
           s;

@@ -1,11 +1,13 @@
 pub mod Sizes
 pub mod Chain
 pub mod ChainLaws
+pub mod ShapeLaws
 pub mod States
 pub mod Balances
 pub mod Minimum
 pub mod Sound
 pub mod Steps
+pub mod StepLaws
 pub mod Queries
 pub mod Calls
 pub mod Reading

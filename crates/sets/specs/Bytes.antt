@@ -1,15 +1,10 @@
--- Parts of lists: two lists that agree on their first members agree on every part of these, and what holds of all
--- members holds of all members of a part.
+-- Parts of lists: two lists that agree on their first members agree on every part of these.
 use mathlib.Core.Path.{_≡_, sym, ap, _∙_}
-use mathlib.Core.Bool.{Bool}
 use mathlib.Core.List.{List, [], _∷_}
 use Prim.Native.Nat.{ℕ, zero, suc, _+_, _≤_, min}
 use native.Mathlib.Nat.{zero-add, suc-add}
-use lib.Dec.{T}
 use lib.ListN.{length, take, drop, length-take}
 use lib.Seq.{take-take, take-nil}
-use Rattle.sets.specs.Sets.{all}
-use Rattle.sets.specs.Tests.{and-left, and-right, and-both}
 
 module _ {A : Type 0} where
   -- lists that agree on their first n members agree on fewer
@@ -29,14 +24,3 @@ module _ {A : Type 0} where
   -- and in length, as far as they agree
   pub agree-length : (n : ℕ) (a b : List A) → take n a ≡ take n b → min n (length a) ≡ min n (length b)
   agree-length n a b e = sym (length-take n a) ∙ ap (λ (l : List A). length l) e ∙ length-take n b
-
-  pub all-take : (p : A → Bool) (n : ℕ) (l : List A) → T (all p l) → T (all p (take n l))
-  all-take p zero l t = tt
-  all-take p (suc n) [] t = tt
-  all-take p (suc n) (x ∷ l) t =
-      and-both (p x) (all p (take n l)) (and-left (p x) (all p l) t) (all-take p n l (and-right (p x) (all p l) t))
-
-  pub all-drop : (p : A → Bool) (n : ℕ) (l : List A) → T (all p l) → T (all p (drop n l))
-  all-drop p zero l t = t
-  all-drop p (suc n) [] t = tt
-  all-drop p (suc n) (x ∷ l) t = all-drop p n l (and-right (p x) (all p l) t)

@@ -1,18 +1,20 @@
 -- Counting different members: a list without repeats, each of whose members counts as some member of a second list, is
 -- no longer than the second. With it the lengths and sums that follow, and members of ascending lists compared.
-use mathlib.Core.Path.{_≡_, refl, sym, subst, _∙_}
-use mathlib.Core.Logic.{_⊎_, inl, inr, ⊎-elim}
+use mathlib.Core.Path.{_≡_, refl, sym, subst}
+use mathlib.Core.Logic.{_⊎_, ⊎-elim}
 use mathlib.Core.Bool.{Bool, true, false, not, cond, _||_}
-use mathlib.Core.List.{List, [], _∷_, List·Memᴰ, List·Memᴰ·head, List·Memᴰ·tail, List·Memᴰ·not-nil, List·Memᴰ·cases-cons}
+use mathlib.Core.List.{List, [], _∷_, List·Memᴰ, List·Memᴰ·head, List·Memᴰ·tail, List·Memᴰ·not-nil, List·Memᴰ·cases-cons, Memᴰ·cast}
 use Prim.Native.Nat.{ℕ, zero, suc, _*_, _≤_, _<_}
-use native.Mathlib.Nat.{suc-mul}
+use native.Mathlib.Nat.{not-suc-le-zero, le-of-suc-le-suc, suc-mul}
 use native.Mathlib.Omega.{arith}
 use lib.Dec.{T, T-not, not-T}
-use lib.ListN.{length, take, length-append}
+use lib.ListN.{length, getD, take, length-append, length-take}
+use lib.Seq.{getD-take}
 use Rattle.sets.specs.Sets.{any, all, keep, pairwise, ascending, has, place, together, gather}
 use Rattle.sets.specs.Tests.{and-left, and-right, and-both, T-cases, cond-true, cond-false}
 use Rattle.sets.specs.Laws.{any-intro, any-elim, all-intro, all-elim, keep-intro, keep-length, place-from, together-from, together-right}
 use Rattle.sets.specs.Order.{ascending-tail, ascending-first}
+use Rattle.sets.specs.Sums.{pairwise-two, pairwise-wider}
 
 module _ {A : Type 0} where
   -- what is among the first n is a member
@@ -24,6 +26,16 @@ module _ {A : Type 0} where
       (λ (e : x ≡ y). List·Memᴰ·head e)
       (λ (h : List·Memᴰ x (take n l)). List·Memᴰ·tail (take-from n l h))
       (List·Memᴰ·cases-cons m)
+
+  -- what stands at a place is a member, and one of the first n where the place is
+  pub member-at : (l : List A) (i : ℕ) (d : A) → i < length l → List·Memᴰ (getD l i d) l
+  member-at [] i d h = absurd (not-suc-le-zero h)
+  member-at (x ∷ l) zero d h = List·Memᴰ·head refl
+  member-at (x ∷ l) (suc i) d h = List·Memᴰ·tail (member-at l i d (le-of-suc-le-suc h))
+
+  pub member-first : (l : List A) (n i : ℕ) (d : A) → i < n → i < length l → List·Memᴰ (getD l i d) (take n l)
+  member-first l n i d g h =
+      Memᴰ·cast (sym (getD-take n l i d g)) (member-at (take n l) i d (omega (arith, length-take n l)))
 
   -- what holds of the first and of all others holds of every member
   pub each-cons : (P : A → Type 0) (x : A) (l : List A) → P x → ((y : A) → List·Memᴰ y l → P y) → (y : A) → List·Memᴰ y (x ∷ l) → P y
@@ -53,24 +65,18 @@ module _ {A B : Type 0} where
       rw (length-append (f x) (gather f l), suc-mul (length l) n) (omega arith)
 
 module _ {A : Type 0} (before : A → A → Bool) (trans : (a b c : A) → T (before a b) → T (before b c) → T (before a c)) where
+  -- each member of an ascending list is before all members after it
+  ascending-pairwise : (l : List A) → T (ascending before l) → T (pairwise before l)
+  ascending-pairwise [] t = tt
+  ascending-pairwise (x ∷ l) t =
+      and-both (all (before x) l) (pairwise before l) (all-intro (before x) l (ascending-first before trans x l t))
+      (ascending-pairwise l (ascending-tail before x l t))
+
   -- of two members of an ascending list, either they are one, or one is before the other
   pub ascending-two :
       {x y : A} (l : List A) → T (ascending before l) → List·Memᴰ x l → List·Memᴰ y l →
       (x ≡ y) ⊎ (T (before x y) ⊎ T (before y x))
-  ascending-two [] t m n = absurd (List·Memᴰ·not-nil m)
-  ascending-two {x} {y} (z ∷ l) t m n =
-      go (λ (a : List·Memᴰ x l) (b : List·Memᴰ y l). ascending-two l (ascending-tail before z l t) a b)
-      (List·Memᴰ·cases-cons m) (List·Memᴰ·cases-cons n)
-    where
-      go :
-          (List·Memᴰ x l → List·Memᴰ y l → (x ≡ y) ⊎ (T (before x y) ⊎ T (before y x))) →
-          (x ≡ z) ⊎ List·Memᴰ x l → (y ≡ z) ⊎ List·Memᴰ y l → (x ≡ y) ⊎ (T (before x y) ⊎ T (before y x))
-      go r (inl e) (inl d) = inl (e ∙ sym d)
-      go r (inl e) (inr k) =
-          inr (inl (subst (λ (u : A). T (before u y)) (sym e) (ascending-first before trans z l t y k)))
-      go r (inr k) (inl d) =
-          inr (inr (subst (λ (u : A). T (before u x)) (sym d) (ascending-first before trans z l t x k)))
-      go r (inr h) (inr k) = r h k
+  ascending-two l t m n = pairwise-two before l (ascending-pairwise l t) m n
 
   -- two members of an ascending list, neither before the other, are one
   pub ascending-neither :
@@ -87,12 +93,8 @@ module _ {A : Type 0} (before : A → A → Bool) (trans : (a b c : A) → T (be
   pub ascending-different :
       (same : A → A → Bool) → ((a b : A) → T (same a b) → T (before a b) → ⊥) → (l : List A) → T (ascending before l) →
       T (pairwise (λ a b. not (same a b)) l)
-  ascending-different same never [] t = tt
-  ascending-different same never (x ∷ l) t =
-      and-both (all (λ b. not (same x b)) l) (pairwise (λ a b. not (same a b)) l)
-      (all-intro (λ b. not (same x b)) l
-      (λ y m. not-T (same x y) (λ (s : T (same x y)). never x y s (ascending-first before trans x l t y m))))
-      (ascending-different same never l (ascending-tail before x l t))
+  ascending-different same never l t =
+      pairwise-wider before (λ a b. not (same a b)) l (λ x y m n s. not-T (same x y) (λ (e : T (same x y)). never x y e s)) (ascending-pairwise l t)
 
 -- ── a sameness: symmetric and transitive
 

@@ -10,15 +10,15 @@ use native.Mathlib.Omega.{arith}
 use mir.Syntax.{w64}
 use mir.Val.{Fits, boolByte}
 use lib.Dec.{T, not-T, ltb, ltb→lt, lt→ltb, nltb→le}
-use lib.ListN.{length, getD, take, set, replicate, replicate-append-replicate, length-append, length-map, length-replicate, length-take, List·getD-map, drop, length-drop, take-append-drop}
+use lib.ListN.{length, getD, take, set, replicate, replicate-append-replicate, length-append, length-map, length-replicate, length-take, List·getD-append, List·getD-map, drop, length-drop, take-append-drop}
 use lib.Seq.{take-append-seam, drop-append-seam, take-suc, take-all, set-at, set-out, append-snoc, getD-take}
 use Rattle.sets.specs.Walks.{all-one, all-replicate}
-use Rattle.sets.specs.Sets.{all, keep, gather}
+use Rattle.sets.specs.Sets.{all, keep, total, gather}
 use Rattle.sets.specs.Tests.{T-cases, cond-true, cond-false}
-use Rattle.sets.specs.Laws.{keep-append, gather-append}
+use Rattle.sets.specs.Laws.{keep-append, total-append, gather-append}
 
 -- a flag counts as none or one
-flag-most : (live : Bool) → boolByte live ≤ 1
+pub flag-most : (live : Bool) → boolByte live ≤ 1
 flag-most true = omega arith
 flag-most false = omega arith
 
@@ -41,11 +41,14 @@ module _ {A : Type 0} where
   pub filled-first : (n : ℕ) (z : A) (l : List A) → take (length l) (l ++ replicate (n - length l) z) ≡ l
   filled-first n z l = take-append-seam l (replicate (n - length l) z)
 
+  -- and the one value behind it
+  pub filled-behind : (n : ℕ) (z : A) (l : List A) → drop (length l) (filled n z l) ≡ replicate (n - length l) z
+  filled-behind n z l = drop-append-seam l (replicate (n - length l) z)
+
   -- what holds of the one value holds of all places behind the list
   pub filled-rest : (p : A → Bool) (n : ℕ) (z : A) (l : List A) → T (p z) → T (all p (drop (length l) (l ++ replicate (n - length l) z)))
   filled-rest p n z l t =
-      subst (λ (r : List A). T (all p r)) (sym (drop-append-seam l (replicate (n - length l) z)))
-      (all-replicate p z (n - length l) t)
+      subst (λ (r : List A). T (all p r)) (sym (filled-behind n z l)) (all-replicate p z (n - length l) t)
 
   -- an array with nothing behind its first places is those, and z behind
   pub places-filled :
@@ -56,6 +59,14 @@ module _ {A : Type 0} where
       sym (take-append-drop i l)
       ∙ ap (λ (r : List A). take i l ++ r) (all-one p z one (drop i l) t ∙ ap (λ (k : ℕ). replicate k z) rest)
 
+  -- what stands behind a list and is worth nothing adds nothing
+  total-none : (f : A → ℕ) (z : A) (n : ℕ) → f z ≡ 0 → total f (replicate n z) ≡ 0
+  total-none f z zero e = refl
+  total-none f z (suc n) e = omega (arith, total-none f z n e)
+
+  pub total-filled : (f : A → ℕ) (n : ℕ) (z : A) (l : List A) → f z ≡ 0 → total f (filled n z l) ≡ total f l
+  total-filled f n z l e = omega (arith, total-append f l (replicate (n - length l) z), total-none f z (n - length l) e)
+
   pub filled-none : (n : ℕ) (z : A) → filled n z [] ≡ replicate n z
   filled-none n z = ap (λ (k : ℕ). replicate k z) (sub-zero n)
 
@@ -65,12 +76,12 @@ module _ {A : Type 0} where
       let e : n - length l ≡ suc (n - suc (length l)) = omega arith in
       ap (λ (k : ℕ). l ++ replicate k z) e
 
-  -- a member more is written behind the list
-  pub filled-next : (n : ℕ) (z : A) (l : List A) (x : A) → length l < n → set (filled n z l) (length l) x ≡ filled n z (l ++ x ∷ [])
-  filled-next n z l x h =
+  -- a member more is written into the first place behind the list
+  pub filled-next : (n : ℕ) (z : A) (l : List A) (i : ℕ) (x : A) → length l ≡ i → i < n → set (filled n z l) i x ≡ filled n z (l ++ x ∷ [])
+  filled-next n z l i x at h =
       let e : n - suc (length l) ≡ n - length (l ++ x ∷ []) = omega (arith, length-append l (x ∷ [])) in
-      ap (λ (a : List A). set a (length l) x) (filled-open n z l h)
-      ∙ set-at l z (replicate (n - suc (length l)) z) x (length l) refl
+      ap (λ (a : List A). set a i x) (filled-open n z l (omega arith))
+      ∙ set-at l z (replicate (n - suc (length l)) z) x i at
       ∙ sym (append-snoc l x (replicate (n - suc (length l)) z))
       ∙ ap (λ (k : ℕ). (l ++ x ∷ []) ++ replicate k z) e
 
@@ -109,7 +120,7 @@ module _ {A : Type 0} where
       room = omega arith
 
       byFlag : (b : Bool) → set (filled n z l) (length l) (cond b x z) ≡ filled n z (l ++ one b x)
-      byFlag true = filled-next n z l x room
+      byFlag true = filled-next n z l (length l) x refl room
       byFlag false = filled-same n z l ∙ ap (λ (r : List A). filled n z r) (sym (append-nil l))
 
   -- ── the first i members, and one more
@@ -169,6 +180,17 @@ module _ {A B : Type 0} where
   pub mapped-length : (f : A → B) (l : List A) (n : ℕ) → length (map f l) ≡ n → length l ≡ n
   mapped-length f l n e = sym (length-map l f) ∙ e
 
+  -- a place of a mapped list
+  pub mapped-at : (f : A → B) (l : List A) (j : ℕ) (d : A) (e : B) → j < length l → getD (map f l) j e ≡ f (getD l j d)
+  mapped-at f [] j d e h = absurd (not-suc-le-zero h)
+  mapped-at f (x ∷ l) zero d e h = refl
+  mapped-at f (x ∷ l) (suc j) d e h = mapped-at f l j d e (le-of-suc-le-suc h)
+
+  -- so of one laid into an array
+  pub filled-at : (n : ℕ) (z e : B) (f : A → B) (l : List A) (j : ℕ) (d : A) → j < length l → getD (filled n z (map f l)) j e ≡ f (getD l j d)
+  filled-at n z e f l j d h =
+      List·getD-append (map f l) (replicate (n - length (map f l)) z) e j (omega (arith, length-map l f)) ∙ mapped-at f l j d e h
+
   map-one : (f : A → B) (live : Bool) (x : A) → map f (one live x) ≡ one live (f x)
   map-one f true x = refl
   map-one f false x = refl
@@ -178,11 +200,11 @@ module _ {A B : Type 0} where
 
   -- a turn of a loop that writes what each member gives
   pub map-turn :
-      (n : ℕ) (z : B) (f : A → B) (l : List A) (i : ℕ) (d : A) (a : List B) → i < n → length l ≡ n →
-      a ≡ filled n z (map f (take i l)) → set a i (f (getD l i d)) ≡ filled n z (map f (take (i + 1) l))
-  map-turn n z f l i d a h e g =
+      (n : ℕ) (z : B) (f : A → B) (l : List A) (i : ℕ) (d : A) (a : List B) (v : B) → i < n → length l ≡ n →
+      a ≡ filled n z (map f (take i l)) → v ≡ f (getD l i d) → set a i v ≡ filled n z (map f (take (i + 1) l))
+  map-turn n z f l i d a v h e g t =
       let k : i ≡ length (map f (take i l)) = omega (arith, length-map (take i l) f, length-take i l) in
-      turn-filled n z (map f (take i l)) (map f (take (i + 1) l)) a i true (f (getD l i d)) (f (getD l i d)) h k g refl
+      turn-filled n z (map f (take i l)) (map f (take (i + 1) l)) a i true (f (getD l i d)) v h k g t
       (map-more f l i d (omega arith))
 
   -- where each member gives what stands behind the list anyway, nothing is to be seen of it
@@ -334,12 +356,6 @@ module _ {A : Type 0} where
       )
 
 module _ {A B : Type 0} where
-  -- a place of a mapped list
-  pub mapped-at : (f : A → B) (l : List A) (j : ℕ) (d : A) (e : B) → j < length l → getD (map f l) j e ≡ f (getD l j d)
-  mapped-at f [] j d e h = absurd (not-suc-le-zero h)
-  mapped-at f (x ∷ l) zero d e h = refl
-  mapped-at f (x ∷ l) (suc j) d e h = mapped-at f l j d e (le-of-suc-le-suc h)
-
   -- where the flags are a test of a list's members, what is gained is what the test keeps
   pub gained-kept :
       (live : ℕ → Bool) (f : A → B) (p : A → Bool) (l : List A) (d : A) (i : ℕ) → i ≤ length l →

@@ -13,5 +13,5 @@ pub mod Placing
 pub mod Words
 pub mod Sums
 pub mod Marks
-pub mod Reading
+pub mod Listed
 pub mod Lowest

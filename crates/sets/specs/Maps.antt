@@ -1,13 +1,12 @@
 -- Lists seen through a map: what a test finds, keeps and picks of a mapped list, and two lists of which one is the other
 -- seen through a map.
 use mathlib.Core.Path.{_≡_, refl, sym, ap, subst, _∙_}
-use mathlib.Core.Bool.{Bool, true, false, cond, _&&_, _||_}
+use mathlib.Core.Bool.{Bool, true, false, cond, _&&_, _||_, and-true, and-false}
 use mathlib.Core.List.{List, [], _∷_, map, map-map, List·Memᴰ, List·Memᴰ·head, List·Memᴰ·tail}
 use lib.Dec.{T}
-use Rattle.sets.specs.Sets.{any, all, keep, place}
+use Rattle.sets.specs.Sets.{any, all, keep, place, gather}
 use Rattle.sets.specs.Tests.{and-right, and-both, same-test}
-use Rattle.sets.specs.Laws.{any-intro, any-elim, all-intro, all-elim, keep-from, keep-holds, keep-intro, keep-same, keep-keep, map-intro, map-elim}
-use Rattle.sets.specs.Walks.{and-true}
+use Rattle.sets.specs.Laws.{any-intro, any-elim, any-append, all-intro, all-elim, keep-from, keep-holds, keep-intro, keep-same, keep-keep, map-intro, map-elim}
 
 module _ {A : Type 0} where
   -- two tests that agree on the members find the same
@@ -30,10 +29,12 @@ module _ {A : Type 0} where
         | true ↦ ap (λ (b : Bool). p x || b) (any-keep p q l) ∙ ap (λ (b : Bool). b || any (λ y. p y && q y) l) (sym (and-true (p x)))
         | false ↦ any-keep p q l ∙ ap (λ (b : Bool). b || any (λ y. p y && q y) l) (sym (and-false (p x)))
       ]
-    where
-      and-false : (b : Bool) → (b && false) ≡ false
-      and-false true = refl
-      and-false false = refl
+
+  -- what holds beside a fact that does not speak of the members
+  pub any-and : (a : Bool) (p : A → Bool) (l : List A) → any (λ x. a && p x) l ≡ (a && any p l)
+  any-and true p l = refl
+  any-and false p [] = refl
+  any-and false p (x ∷ l) = any-and false p l
 
   -- a test that a narrower one implies is not asked for
   pub keep-wider : (p q : A → Bool) (l : List A) → ((x : A) → List·Memᴰ x l → T (p x) → T (q x)) → keep p (keep q l) ≡ keep p l
@@ -46,6 +47,15 @@ module _ {A B : Type 0} where
   pub any-map : (p : B → Bool) (f : A → B) (l : List A) → any p (map f l) ≡ any (λ x. p (f x)) l
   any-map p f [] = refl
   any-map p f (x ∷ l) = ap (λ (b : Bool). p (f x) || b) (any-map p f l)
+
+  pub all-map : (p : B → Bool) (f : A → B) (l : List A) → all p (map f l) ≡ all (λ x. p (f x)) l
+  all-map p f [] = refl
+  all-map p f (x ∷ l) = ap (λ (b : Bool). p (f x) && b) (all-map p f l)
+
+  -- some member of some list
+  pub any-gather : (p : B → Bool) (f : A → List B) (l : List A) → any p (gather f l) ≡ any (λ x. any p (f x)) l
+  any-gather p f [] = refl
+  any-gather p f (x ∷ l) = any-append p (f x) (gather f l) ∙ ap (λ (b : Bool). any p (f x) || b) (any-gather p f l)
 
   -- what a test keeps of mapped members is what the test of their images keeps, mapped
   pub keep-map : (p : B → Bool) (f : A → B) (l : List A) → keep p (map f l) ≡ map f (keep (λ x. p (f x)) l)

@@ -3,12 +3,15 @@ use mathlib.Core.Path.{_≡_, refl, sym, ap, subst, _∙_}
 use mathlib.Core.Logic.{_⊎_, inl, inr}
 use mathlib.Core.Bool.{Bool, true, false, not, cond, _&&_, _||_}
 use mathlib.Core.List.{List, [], _∷_, _++_, map, List·Memᴰ, List·Memᴰ·head, List·Memᴰ·tail, List·Memᴰ·not-nil, List·Memᴰ·cases-cons}
-use Prim.Native.Nat.{ℕ, _+_}
+use Prim.Native.Nat.{ℕ, zero, suc, _+_, _*_, _≤_, _<_}
+use native.Mathlib.Nat.{not-suc-le-zero, le-of-suc-le-suc, zero-mul, suc-mul}
 use native.Mathlib.Omega.{arith}
 use lib.Dec.{T}
+use lib.ListN.{length, getD, take}
 use Rattle.sets.specs.Sets.{all, keep, total, pairwise, once, gather}
 use Rattle.sets.specs.Tests.{and-left, and-right, and-both}
 use Rattle.sets.specs.Laws.{all-intro, all-elim, all-append, keep-all, total-append, gather-elim}
+use Rattle.sets.specs.Maps.{all-map}
 
 module _ {A : Type 0} where
   -- ── pairs of members
@@ -95,22 +98,35 @@ module _ {A : Type 0} where
       ])
       (h x (List·Memᴰ·head refl))
 
+  -- what a test keeps sums to as much as the whole in which the others count nothing
+  pub total-kept : (f : A → ℕ) (p : A → Bool) (l : List A) → total f (keep p l) ≡ total (λ x. cond (p x) (f x) 0) l
+  total-kept f p [] = refl
+  total-kept f p (x ∷ l) =
+      let rest : total f (keep p l) ≡ total (λ y. cond (p y) (f y) 0) l = total-kept f p l in
+      elim (p x) as (λ b. total f (cond b (x ∷ keep p l) (keep p l)) ≡ cond b (f x) 0 + total (λ y. cond (p y) (f y) 0) l)
+      [ true ↦ ap (λ (n : ℕ). f x + n) rest | false ↦ omega (arith, rest) ]
+
+  -- a sum is no less than one of its members, and than that of the first
+  pub total-at : (f : A → ℕ) (l : List A) (i : ℕ) (d : A) → i < length l → f (getD l i d) ≤ total f l
+  total-at f [] i d h = absurd (not-suc-le-zero h)
+  total-at f (x ∷ l) zero d h = omega arith
+  total-at f (x ∷ l) (suc i) d h = omega (arith, total-at f l i d (le-of-suc-le-suc h))
+
+  pub total-first : (f : A → ℕ) (l : List A) (i n : ℕ) → i ≤ n → total f (take i l) ≤ total f (take n l)
+  total-first f l zero n h = omega arith
+  total-first f [] (suc i) n h = omega arith
+  total-first f (x ∷ l) (suc i) zero h = absurd (not-suc-le-zero h)
+  total-first f (x ∷ l) (suc i) (suc n) h = omega (arith, total-first f l i n (le-of-suc-le-suc h))
+
+  -- one number for each member
+  pub total-each : (n : ℕ) (l : List A) → total (λ x. n) l ≡ length l * n
+  total-each n [] = omega (arith, zero-mul n)
+  total-each n (x ∷ l) = omega (arith, total-each n l, suc-mul (length l) n)
+
 module _ {A B : Type 0} where
   pub total-gather : (f : B → ℕ) (g : A → List B) (l : List A) → total f (gather g l) ≡ total (λ x. total f (g x)) l
   total-gather f g [] = refl
   total-gather f g (x ∷ l) = omega (arith, total-append f (g x) (gather g l), total-gather f g l)
-
-  pub keep-map : (p : B → Bool) (f : A → B) (l : List A) → keep p (map f l) ≡ map f (keep (λ x. p (f x)) l)
-  keep-map p f [] = refl
-  keep-map p f (x ∷ l) =
-      ap (λ (r : List B). cond (p (f x)) (f x ∷ r) r) (keep-map p f l)
-      ∙ (elim (p (f x)) as
-      (λ b. cond b (f x ∷ map f (keep (λ y. p (f y)) l)) (map f (keep (λ y. p (f y)) l)) ≡ map f (cond b (x ∷ keep (λ y. p (f y)) l) (keep (λ y. p (f y)) l)))
-      [ true ↦ refl | false ↦ refl ])
-
-  pub all-map : (p : B → Bool) (f : A → B) (l : List A) → all p (map f l) ≡ all (λ x. p (f x)) l
-  all-map p f [] = refl
-  all-map p f (x ∷ l) = ap (λ (b : Bool). p (f x) && b) (all-map p f l)
 
   pub pairwise-map : (r : B → B → Bool) (f : A → B) (l : List A) → pairwise r (map f l) ≡ pairwise (λ x y. r (f x) (f y)) l
   pairwise-map r f [] = refl

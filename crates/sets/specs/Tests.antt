@@ -4,7 +4,7 @@ use mathlib.Core.Logic.{_⊎_, inl, inr}
 use mathlib.Core.Bool.{Bool, true, false, not, cond, _&&_, _||_}
 use mathlib.Core.List.{List, [], _∷_}
 use Prim.Native.Nat.{ℕ, zero, suc}
-use lib.Dec.{T, eqb, eqb-refl}
+use lib.Dec.{T, T-not, not-T, eqb, eqb→eq, eqb-refl}
 use lib.ListN.{getD}
 use Rattle.sets.specs.Sets.{every}
 
@@ -40,6 +40,10 @@ pub not-not : (b : Bool) → T (not (not b)) → T b
 not-not true t = tt
 not-not false t = absurd t
 
+pub not-not-holds : (b : Bool) → T b → T (not (not b))
+not-not-holds true t = tt
+not-not-holds false t = absurd t
+
 pub is-true : (b : Bool) → T b → b ≡ true
 is-true true t = refl
 is-true false t = absurd t
@@ -72,9 +76,15 @@ one-fails true b (inl t) = absurd t
 one-fails true b (inr t) = t
 one-fails false b t = tt
 
--- equal numbers
+-- equal numbers, and others
 pub equal-holds : (m n : ℕ) → m ≡ n → T (eqb m n)
 equal-holds m n e = subst (λ (k : ℕ). T (eqb m k)) e (eqb-refl m)
+
+pub neqb→ne : (m n : ℕ) → T (not (eqb m n)) → m ≡ n → ⊥
+neqb→ne m n t e = T-not (eqb m n) t (equal-holds m n e)
+
+pub ne→neqb : (m n : ℕ) → (m ≡ n → ⊥) → T (not (eqb m n))
+ne→neqb m n f = not-T (eqb m n) (λ (t : T (eqb m n)). f (eqb→eq m n t))
 
 -- two tests that imply each other are one
 pub same-test : (a b : Bool) → (T a → T b) → (T b → T a) → a ≡ b

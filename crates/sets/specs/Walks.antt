@@ -1,7 +1,7 @@
 -- Laws for code over lists: what a test or a sum over the first i members becomes with one member more, what is left
 -- behind them, flags joined one by one, and arrays with a count and nothing in the other places.
 use mathlib.Core.Path.{_≡_, refl, sym, ap, ap₂, subst, _∙_}
-use mathlib.Core.Bool.{Bool, true, false, not, cond, _&&_, _||_}
+use mathlib.Core.Bool.{Bool, true, false, cond, _&&_, _||_, and-true, and-false, and-assoc, or-false}
 use mathlib.Core.List.{List, [], _∷_, _++_, map}
 use Prim.Native.Nat.{ℕ, zero, suc, _+_, _-_, _≤_, _<_, max}
 use native.Mathlib.Nat.{not-suc-le-zero, le-of-suc-le-suc}
@@ -9,28 +9,17 @@ use native.Mathlib.Numerals.{add-one, sub-one}
 use native.Mathlib.Omega.{arith}
 use mir.Val.{boolByte}
 use lib.Dec.{T, eqb}
-use lib.ListN.{length, getD, take, drop, replicate, drop-of-length-le, length-map, length-drop, take-append-drop}
+use lib.ListN.{length, getD, take, drop, replicate, drop-of-length-le, length-drop, take-append-drop}
 use lib.Seq.{take-suc, take-all, drop-cons, getD-take, length-take-le}
 use borrow.Author.Tests.{eqb-true}
 use Rattle.sets.specs.Sets.{every, any, all, total, ascending, sameList}
 use Rattle.sets.specs.Tests.{and-left, and-right, and-both, cond-true}
-use Rattle.sets.specs.Laws.{any-append, all-append, total-append}
-
-pub and-true : (b : Bool) → (b && true) ≡ b
-and-true true = refl
-and-true false = refl
-
-pub and-assoc : (a b c : Bool) → (a && (b && c)) ≡ ((a && b) && c)
-and-assoc true b c = refl
-and-assoc false b c = refl
-
-or-false : (b : Bool) → (b || false) ≡ b
-or-false true = refl
-or-false false = refl
+use Rattle.sets.specs.Laws.{all-elim, any-append, all-append, total-append}
+use Rattle.sets.specs.Count.{member-first}
 
 -- a flag that stands for a guard and a test, with one test more
 pub guarded-step : (g a b ok here : Bool) → ok ≡ (g && a) → (a && here) ≡ b → (ok && here) ≡ (g && b)
-guarded-step g a b ok here e f = rw (e, ← f) (sym (and-assoc g a here))
+guarded-step g a b ok here e f = rw (e, ← f) (and-assoc g a here)
 
 -- ── a list of tests: flag by flag as code joins them, and all their facts as one tuple
 
@@ -40,7 +29,7 @@ joined a (b ∷ l) = joined (a && b) l
 
 pub joined-every : (a : Bool) (l : List Bool) → joined a l ≡ every (a ∷ l)
 joined-every a [] = sym (and-true a)
-joined-every a (b ∷ l) = joined-every (a && b) l ∙ sym (and-assoc a b (every l))
+joined-every a (b ∷ l) = joined-every (a && b) l ∙ and-assoc a b (every l)
 
 abbrev pub Holds : List Bool → Type 0
 Holds [] = Unit {0}
@@ -54,13 +43,11 @@ pub every-holds : (l : List Bool) → Holds l → T (every l)
 every-holds [] f = tt
 every-holds (b ∷ l) f = and-both b (every l) (f .0) (every-holds l (f .1))
 
--- one test that fails
-pub every-fails : (l : List Bool) (i : ℕ) → T (not (getD l i true)) → every l ≡ false
-every-fails [] i t = absurd t
-every-fails (true ∷ l) zero t = absurd t
-every-fails (false ∷ l) zero t = refl
-every-fails (true ∷ l) (suc i) t = every-fails l i t
-every-fails (false ∷ l) (suc i) t = refl
+-- one test that fails, and not all hold
+pub every-fails : (l : List Bool) (i : ℕ) → getD l i true ≡ false → every l ≡ false
+every-fails [] i e = e
+every-fails (b ∷ l) zero e = ap (λ (x : Bool). x && every l) e
+every-fails (b ∷ l) (suc i) e = ap (λ (x : Bool). b && x) (every-fails l i e) ∙ and-false b
 
 -- past the end of an empty list there is nothing
 none-left : {P : Type 0} {i : ℕ} → i < 0 → P
@@ -88,7 +75,7 @@ module _ {A : Type 0} where
   ascending-suc before (x ∷ y ∷ l) zero d h = and-true (before x y)
   ascending-suc before (x ∷ y ∷ l) (suc i) d h =
       ap (λ (b : Bool). before x y && b) (ascending-suc before (y ∷ l) i d (le-of-suc-le-suc h))
-      ∙ and-assoc (before x y) (ascending before (take (suc i) (y ∷ l))) (before (getD (y ∷ l) i d) (getD (y ∷ l) (suc i) d))
+      ∙ sym (and-assoc (before x y) (ascending before (take (suc i) (y ∷ l))) (before (getD (y ∷ l) i d) (getD (y ∷ l) (suc i) d)))
 
   pub ascending-more : (before : A → A → Bool) (l : List A) (i : ℕ) (d : A) → 1 ≤ i → i < length l →
       ascending before (take (i + 1) l) ≡ (ascending before (take i l) && before (getD l (i - 1) d) (getD l i d))
@@ -127,11 +114,7 @@ module _ {A : Type 0} where
 
   -- what is said of the first n is said of each of them
   pub all-at : (p : A → Bool) (l : List A) (n i : ℕ) (d : A) → T (all p (take n l)) → i < n → i < length l → T (p (getD l i d))
-  all-at p [] n i d t h k = none-left k
-  all-at p (x ∷ l) zero i d t h k = none-left h
-  all-at p (x ∷ l) (suc n) zero d t h k = and-left (p x) (all p (take n l)) t
-  all-at p (x ∷ l) (suc n) (suc i) d t h k =
-      all-at p l n i d (and-right (p x) (all p (take n l)) t) (le-of-suc-le-suc h) (le-of-suc-le-suc k)
+  all-at p l n i d t h k = all-elim p t (member-first l n i d h k)
 
   pub ascending-step :
       (before : A → A → Bool) (l : List A) (i : ℕ) (d : A) (ok here : Bool) → 1 ≤ i → i < length l →
@@ -145,7 +128,7 @@ module _ {A : Type 0} where
       (ok && all p (drop i l)) ≡ r → here ≡ p (getD l i d) → ((ok && here) && all p (drop (i + 1) l)) ≡ r
   rest-step p l i d ok here r h e f =
       rw (add-one, f)
-      (sym (and-assoc ok (p (getD l i d)) (all p (drop (suc i) l)))
+      (and-assoc ok (p (getD l i d)) (all p (drop (suc i) l))
       ∙ ap (λ (m : List A). ok && all p m) (sym (drop-cons l i d h))
       ∙ e)
 
@@ -159,7 +142,7 @@ module _ {A : Type 0} where
       ((ok && here) && sameList same (drop (i + 1) l) (drop (i + 1) m)) ≡ r
   same-step same l m i d ok here r h k e f =
       rw (add-one, f)
-      (sym (and-assoc ok (same (getD l i d) (getD m i d)) (sameList same (drop (suc i) l) (drop (suc i) m)))
+      (and-assoc ok (same (getD l i d) (getD m i d)) (sameList same (drop (suc i) l) (drop (suc i) m))
       ∙ ap₂ (λ (u v : List A). ok && sameList same u v) (sym (drop-cons l i d h)) (sym (drop-cons m i d k))
       ∙ e)
 
@@ -225,19 +208,6 @@ module _ {A : Type 0} where
 -- ── a list that is made of another
 
 module _ {A B : Type 0} where
-  pub mapped-length : (f : A → B) (l : List A) (n : ℕ) → length (map f l) ≡ n → length l ≡ n
-  mapped-length f l n e = sym (length-map l f) ∙ e
-
-  -- a member of the other, whatever stands past the ends
-  pub map-at : (f : A → B) (l : List A) (i : ℕ) (d : A) (e : B) → i < length l → getD (map f l) i e ≡ f (getD l i d)
-  map-at f [] i d e h = none-left h
-  map-at f (x ∷ l) zero d e h = refl
-  map-at f (x ∷ l) (suc i) d e h = map-at f l i d e (le-of-suc-le-suc h)
-
-  pub all-map : (f : A → B) (p : B → Bool) (l : List A) → all p (map f l) ≡ all (λ x. p (f x)) l
-  all-map f p [] = refl
-  all-map f p (x ∷ l) = ap (λ (b : Bool). p (f x) && b) (all-map f p l)
-
   pub ascending-map : (f : A → B) (before : B → B → Bool) (l : List A) → ascending before (map f l) ≡ ascending (λ x y. before (f x) (f y)) l
   ascending-map f before [] = refl
   ascending-map f before (x ∷ []) = refl
@@ -286,7 +256,7 @@ module _ {A B : Type 0} (r : A → B → Bool) where
       more : (ok && here) ≡ (front && all (r x) (take (j + 1) these))
       more =
           rw (f, u, ← getD-take n m j e k)
-          (sym (and-assoc front (all (r x) (take j these)) (r x (getD these j e)))
+          (and-assoc front (all (r x) (take j these)) (r x (getD these j e))
           ∙ ap (λ (b : Bool). front && b) (sym (all-more (r x) these j e (omega (arith, size)))))
 
       byFlag : (last : Bool) (next : ℕ) → last ≡ eqb (j + 1) n → next ≡ cond last 0 (j + 1) → (ok && here) ≡ pairsTo l these d (i + boolByte last) next

@@ -1,13 +1,13 @@
 -- How large the balances and the movements of a sound wallet can be.
 use mathlib.Core.Path.{_≡_, refl}
 use mathlib.Core.Bool.{true, false, not, cond}
-use mathlib.Core.List.{_++_, List·Memᴰ·head}
+use mathlib.Core.List.{List, _++_, List·Memᴰ, List·Memᴰ·head}
 use Prim.Native.Nat.{ℕ, zero, suc, _+_, _*_, _-_, _≤_}
 use native.Mathlib.Omega.{arith}
 use lib.Dec.{T, ltb}
 use lib.ListN.{length, length-map}
 use lib.IntN.{pos, negsuc, natAbs, _-ℤ_}
-use Rattle.sets.specs.Sets.{has}
+use Rattle.sets.specs.Sets.{ascending, has}
 use Rattle.sets.specs.Laws.{any-intro, total-append, total-keep, gather-elim}
 use Rattle.sets.specs.Laws.{total-bound as sum-bound}
 use Rattle.sets.specs.Once.{once-total}
@@ -16,6 +16,7 @@ use Rattle.rules.specs.declared.Entry.{Entry}
 use Rattle.rules.specs.Sizes.{largestAmount, mostOutputs, mostPayments, mostReferences}
 use Rattle.rules.specs.Chain.{sameReference, sameEntry, beforeEntry, sameTransaction, beforeTransaction, entryOf, makes, made, spent, worth, isOwn}
 use Rattle.rules.specs.ChainLaws.{sameTransaction-refl}
+use Rattle.rules.specs.ShapeLaws.{shaped-facts}
 use Rattle.rules.specs.States.{Wallet, ownMade}
 use Rattle.rules.specs.Balances.{available, change, availableBalance, totalBalance}
 use Rattle.rules.specs.Minimum.{minimumBalance}
@@ -23,24 +24,35 @@ use Rattle.rules.specs.Sound.{heldEntries, heldPayments, sound}
 use Rattle.rules.specs.Calls.{Call, step}
 use Rattle.soundness.specs.Orders.{sameEntry-refl, sameEntry-sym, sameEntry-trans, beforeEntry-trans, beforeEntry-never, sameTransaction-sym, sameTransaction-trans, beforeTransaction-trans, beforeTransaction-never}
 use Rattle.futures.specs.Between.{minimum-most}
-use Rattle.soundness.specs.Facts.{Sound, sound-facts, held-utxo, held-pending}
-use Rattle.soundness.specs.Made.{shaped-few-outputs, makes-amounts}
+use Rattle.soundness.specs.Facts.{Sound, sound-facts, held-utxo, held-expected, held-pending}
+use Rattle.soundness.specs.Made.{makes-amounts}
 use Rattle.soundness.specs.Refused.{refused-unchanged, accepted-movement}
 use Rattle.soundness.specs.Kept.{step-sound}
 
 -- ── counts of a state
 
-few-utxo : (w : Wallet) → Sound w → length (w .present .utxo) ≤ mostReferences
-few-utxo w k =
+-- entries that ascend and are held by some state are no more than references may be
+few-held :
+    (w : Wallet) → Sound w → (l : List Entry) → T (ascending beforeEntry l) → ((e : Entry) → List·Memᴰ e l → List·Memᴰ e (heldEntries w)) →
+    length l ≤ mostReferences
+few-held w k l t held =
     omega (
       arith,
       k .few-references,
-      different-fewer-set sameEntry sameEntry-sym sameEntry-trans beforeEntry sameEntry-refl (w .present .utxo) (heldEntries w)
-          (ascending-different beforeEntry beforeEntry-trans sameEntry beforeEntry-never (w .present .utxo) (k .utxo-ascending (w .present) (List·Memᴰ·head refl)))
-          (λ x m. any-intro (sameEntry x) (held-utxo w (List·Memᴰ·head refl) m) (sameEntry-refl x)),
+      different-fewer-set sameEntry sameEntry-sym sameEntry-trans beforeEntry sameEntry-refl l (heldEntries w)
+          (ascending-different beforeEntry beforeEntry-trans sameEntry beforeEntry-never l t)
+          (λ x m. any-intro (sameEntry x) (held x m) (sameEntry-refl x)),
     )
 
-few-pending : (w : Wallet) → Sound w → length (w .present .pending) ≤ mostPayments
+few-utxo : (w : Wallet) → Sound w → length (w .present .utxo) ≤ mostReferences
+few-utxo w k =
+    few-held w k (w .present .utxo) (k .utxo-ascending (w .present) (List·Memᴰ·head refl)) (λ e m. held-utxo w (List·Memᴰ·head refl) m)
+
+pub few-expected : (w : Wallet) → Sound w → length (w .present .expected) ≤ mostReferences
+few-expected w k =
+    few-held w k (w .present .expected) (k .expected-ascending (w .present) (List·Memᴰ·head refl)) (λ e m. held-expected w (List·Memᴰ·head refl) m)
+
+pub few-pending : (w : Wallet) → Sound w → length (w .present .pending) ≤ mostPayments
 few-pending w k =
     omega (
       arith,
@@ -87,7 +99,7 @@ made-bound w k =
           omega (
             arith,
             length-map (p .outputs) (entryOf (p .number)),
-            shaped-few-outputs p (k .payments-shaped p (held-pending w (List·Memᴰ·head refl) m)),
+            shaped-facts p (k .payments-shaped p (held-pending w (List·Memᴰ·head refl) m)) .outputsFit,
           )),
       sum-bound (λ (e : Entry). e .amount) largestAmount (made (w .present .pending))
           (λ e m.
@@ -131,7 +143,7 @@ movement-difference w c t = go (step w c .answer) refl
     )
     go (suc n) e = (0, 0, refused-unchanged w c (λ (z : step w c .answer ≡ 0). omega (arith, e, z)) .1, omega arith, omega arith)
 
-difference-bound : (n a b : ℕ) → a ≤ n → b ≤ n → natAbs (pos a -ℤ pos b) ≤ n
+pub difference-bound : (n a b : ℕ) → a ≤ n → b ≤ n → natAbs (pos a -ℤ pos b) ≤ n
 difference-bound n a zero h k = omega arith
 difference-bound n a (suc b) h k =
     elim (ltb a (suc b)) as (λ c. natAbs (cond c (negsuc (suc b - suc a)) (pos (a - suc b))) ≤ n) [ true ↦ omega arith | false ↦ omega arith ]

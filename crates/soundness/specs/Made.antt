@@ -1,58 +1,29 @@
 -- What shaped transactions and shaped blocks make: one reference is made once, and no amount is above the largest.
 use mathlib.Core.Path.{_≡_, sym, ap, subst, _∙_}
 use mathlib.Core.Logic.{_⊎_, ⊎-elim}
-use mathlib.Core.Bool.{Bool}
-use mathlib.Core.List.{List, [], _∷_, List·Memᴰ}
+use mathlib.Core.List.{List·Memᴰ}
 use Prim.Native.Nat.{_≤_}
 use native.Mathlib.Omega.{arith}
 use lib.Dec.{T, eqb, leb, leb→le, eqb→eq, ltb→lt, lt→ltb}
-use lib.ListN.{length}
-use Rattle.sets.specs.Sets.{all, ascending}
-use Rattle.sets.specs.Tests.{and-left, and-right, every-at}
+use Rattle.sets.specs.Tests.{and-left, and-right}
 use Rattle.sets.specs.Laws.{all-elim, map-elim, gather-elim}
 use Rattle.sets.specs.Count.{ascending-two}
 use Rattle.rules.specs.declared.Number.{Number}
 use Rattle.rules.specs.declared.Output.{Output}
 use Rattle.rules.specs.declared.Entry.{Entry}
-use Rattle.rules.specs.Sizes.{largestAmount, fewestInputs, mostInputs, mostOutputs, mostTransactions}
-use Rattle.rules.specs.Chain.{sameNumber, beforeNumber, beforeReference, beforeOutput, sameEntry, Transaction, beforeTransaction, Block, entryOf, makes, made, shapedTransaction, shapedBlock}
+use Rattle.rules.specs.Sizes.{largestAmount}
+use Rattle.rules.specs.Chain.{sameNumber, beforeNumber, beforeOutput, sameEntry, Transaction, beforeTransaction, Block, entryOf, makes, made, shapedTransaction, shapedBlock}
+use Rattle.rules.specs.ShapeLaws.{shaped-facts, shaped-block-facts}
 use Rattle.rules.specs.ChainLaws.{sameNumber-eq, beforeNumber-irrefl, beforeNumber-trans}
 
--- ── shape, clause by clause
-
-abbrev transactionClauses : Transaction → List Bool
-transactionClauses t =
-    leb fewestInputs (length (t .inputs))
-    ∷ leb (length (t .inputs)) mostInputs
-    ∷ leb (length (t .outputs)) mostOutputs
-    ∷ ascending beforeReference (t .inputs)
-    ∷ ascending beforeOutput (t .outputs)
-    ∷ all (λ o. leb (o .amount) largestAmount) (t .outputs)
-    ∷ []
-
-abbrev blockClauses : Block → List Bool
-blockClauses b = leb (length b) mostTransactions ∷ all shapedTransaction b ∷ ascending beforeTransaction b ∷ []
-
-pub shaped-few-outputs : (t : Transaction) → T (shapedTransaction t) → length (t .outputs) ≤ mostOutputs
-unfolding shapedTransaction
-shaped-few-outputs t h = leb→le (length (t .outputs)) mostOutputs (every-at (transactionClauses t) 2 h)
-
-pub shaped-outputs-ascend : (t : Transaction) → T (shapedTransaction t) → T (ascending beforeOutput (t .outputs))
-unfolding shapedTransaction
-shaped-outputs-ascend t h = every-at (transactionClauses t) 4 h
+-- ── shape, member by member
 
 pub shaped-amounts : (t : Transaction) → T (shapedTransaction t) → (o : Output) → List·Memᴰ o (t .outputs) → o .amount ≤ largestAmount
-unfolding shapedTransaction
 shaped-amounts t h o m =
-    leb→le (o .amount) largestAmount (all-elim (λ (o : Output). leb (o .amount) largestAmount) (every-at (transactionClauses t) 5 h) m)
+    leb→le (o .amount) largestAmount (all-elim (λ (o : Output). leb (o .amount) largestAmount) (shaped-facts t h .amountsFit) m)
 
 pub block-transactions-shaped : (b : Block) → T (shapedBlock b) → (t : Transaction) → List·Memᴰ t b → T (shapedTransaction t)
-unfolding shapedBlock
-block-transactions-shaped b h t m = all-elim shapedTransaction (every-at (blockClauses b) 1 h) m
-
-pub block-numbers-ascend : (b : Block) → T (shapedBlock b) → T (ascending beforeTransaction b)
-unfolding shapedBlock
-block-numbers-ascend b h = every-at (blockClauses b) 2 h
+block-transactions-shaped b h t m = all-elim shapedTransaction (shaped-block-facts b h .eachShaped) m
 
 -- ── one reference is made once
 
@@ -90,7 +61,7 @@ makes-once t h e f m n s =
     q))
     (ascending-two beforeOutput
     (λ x y z u v. lt→ltb (x .index) (z .index) (omega (arith, ltb→lt (x .index) (y .index) u, ltb→lt (y .index) (z .index) v)))
-    (t .outputs) (shaped-outputs-ascend t h) (a .1) (b .1))
+    (t .outputs) (shaped-facts t h .outputsAscend) (a .1) (b .1))
     in
     a .2 ∙ ap (entryOf (t .number)) d ∙ sym (b .2)
 
@@ -107,7 +78,7 @@ block-number-once b h t u m n e =
     q))
     (ascending-two beforeTransaction
     (λ x y z k l. beforeNumber-trans (x .number) (y .number) (z .number) k l)
-    b (block-numbers-ascend b h) m n)
+    b (shaped-block-facts b h .blockAscends) m n)
 
 -- of one shaped block
 pub made-once : (b : Block) → T (shapedBlock b) → (e f : Entry) → List·Memᴰ e (made b) → List·Memᴰ f (made b) → T (sameEntry e f) → e ≡ f

@@ -1,5 +1,5 @@
 -- Entries by their references, transactions by their numbers: sameness and order as the set laws ask for them.
-use mathlib.Core.Path.{_≡_, sym, subst}
+use mathlib.Core.Path.{sym, subst}
 use mathlib.Core.Logic.{_⊎_, inl, inr, ⊎-elim}
 use mathlib.Core.Bool.{not}
 use lib.Dec.{T}
@@ -20,10 +20,6 @@ sameEntry-sym a b t = sameReference-sym (a .reference) (b .reference) t
 pub sameEntry-trans : (a b c : Entry) → T (sameEntry a b) → T (sameEntry b c) → T (sameEntry a c)
 sameEntry-trans a b c s t =
     subst (λ (r : Reference). T (sameReference (a .reference) r)) (sameReference-eq (b .reference) (c .reference) t) s
-
--- equal entries have one reference
-pub sameEntry-equal : (a b : Entry) → a ≡ b → T (sameEntry a b)
-sameEntry-equal a b e = subst (λ (c : Entry). T (sameEntry a c)) e (sameEntry-refl a)
 
 pub beforeEntry-irrefl : (a : Entry) → T (beforeEntry a a) → ⊥
 beforeEntry-irrefl a t = beforeReference-irrefl (a .reference) t

@@ -5,14 +5,16 @@ use mathlib.Core.Bool.{Bool, not}
 use mathlib.Core.List.{List, [], _∷_}
 use Prim.Native.Nat.{ℕ, zero, suc}
 use native.Mathlib.Omega.{arith}
-use lib.Dec.{T, T-not, not-T}
+use lib.Dec.{T, eqb}
 use lib.IntN.{pos, _-ℤ_}
-use Rattle.sets.specs.Tests.{T-cases, not-not, cond-true, cond-false}
+use Rattle.sets.specs.Sets.{all}
+use Rattle.sets.specs.Tests.{and-left, and-right, T-cases, not-not, not-not-holds, neqb→ne, cond-true}
 use Rattle.rules.specs.Chain.{Transaction, Block, shapedTransaction, shapedBlock}
 use Rattle.rules.specs.States.{Wallet, afterBlock, afterPayment, afterRollback}
 use Rattle.rules.specs.Balances.{availableBalance}
 use Rattle.rules.specs.Sound.{tooMany, sound}
 use Rattle.rules.specs.Steps.{Refusal, answerOf, Step, stepTo, numberTaken, inputMissing, paysTooMuch, alreadyUnspent, contradicts, onlyOne, paymentRefusals, blockRefusals, rollbackRefusals, pay, block, rollBack}
+use Rattle.rules.specs.StepLaws.{given-first, given-later, answer-of-step}
 use Rattle.rules.specs.Calls.{Call, blockCall, payCall, backCall, step}
 
 -- ── refused
@@ -27,10 +29,6 @@ unfolding pay block rollBack
 refused-unchanged w (blockCall b) h = refused-step (answerOf (blockRefusals w b)) w (afterBlock w b) h
 refused-unchanged w (payCall p) h = refused-step (answerOf (paymentRefusals w p)) w (afterPayment w p) h
 refused-unchanged w backCall h = refused-step (answerOf (rollbackRefusals w)) w (afterRollback w) h
-
--- the first refusal of a list, given
-first-given : (r : Refusal) (l : List Refusal) → T (r .given) → answerOf (r ∷ l) ≡ r .number
-first-given r l t = cond-true (r .given) (r .number) (answerOf l) t
 
 -- a wallet that is not sound is refused with 9, whatever the call
 pub unsound-refused : (w : Wallet) (c : Call) → T (not (sound w)) → step w c ≡ record { wallet = w; answer = 9; movement = pos 0 }
@@ -83,30 +81,23 @@ accepted-movement w backCall e = moved-step (answerOf (rollbackRefusals w)) w (a
 -- ── what accepted says of each refusal
 
 -- none of a list of refusals is given
-abbrev NoneGiven : List Refusal → Type 0
+abbrev pub NoneGiven : List Refusal → Type 0
 NoneGiven [] = Unit {0}
 NoneGiven (r ∷ l) = T (not (r .given)) × NoneGiven l
 
--- no refusal has the number 0
-abbrev Numbered : List Refusal → Type 0
-Numbered [] = Unit {0}
-Numbered (r ∷ l) = (r .number ≡ 0 → ⊥) × Numbered l
-
-none-given : (l : List Refusal) → Numbered l → answerOf l ≡ 0 → NoneGiven l
+-- where no refusal has the number 0, the answer 0 says that none is given
+pub none-given : (l : List Refusal) → T (all (λ r. not (eqb (r .number) 0)) l) → answerOf l ≡ 0 → NoneGiven l
 none-given [] k e = tt
 none-given (r ∷ l) k e =
+    let numbered : Refusal → Bool = λ q. not (eqb (q .number) 0) in
     ⊎-elim
-    (λ (t : T (r .given)). absurd (k .0 (sym (first-given r l t) ∙ e)))
-    (λ (t : T (not (r .given))). (t, none-given l (k .1) (sym (cond-false (r .given) (r .number) (answerOf l) t) ∙ e)))
+    (λ (t : T (r .given)). absurd (neqb→ne (r .number) 0 (and-left (numbered r) (all numbered l) k) (sym (given-first (r .number) (r .given) l t) ∙ e)))
+    (λ (t : T (not (r .given))). (t, none-given l (and-right (numbered r) (all numbered l) k) (sym (given-later (r .number) (r .given) l t) ∙ e)))
     (T-cases (r .given))
 
 none-answered : (l : List Refusal) → NoneGiven l → answerOf l ≡ 0
 none-answered [] k = refl
-none-answered (r ∷ l) k = cond-false (r .given) (r .number) (answerOf l) (k .0) ∙ none-answered l (k .1)
-
-answer-of-step : (n : ℕ) (old new : Wallet) → stepTo n old new .answer ≡ n
-answer-of-step zero old new = refl
-answer-of-step (suc n) old new = refl
+none-answered (r ∷ l) k = given-later (r .number) (r .given) l (k .0) ∙ none-answered l (k .1)
 
 pub record AcceptedBlock (w : Wallet) (b : Block) : Type 0 where
   pub sound-before : T (sound w)
@@ -132,7 +123,7 @@ pub block-accepted : (w : Wallet) (b : Block) → step w (blockCall b) .answer �
 unfolding block blockRefusals
 block-accepted w b e =
     let k : NoneGiven (blockRefusals w b) =
-    none-given (blockRefusals w b) (omega arith, (omega arith, (omega arith, (omega arith, (omega arith, tt)))))
+    none-given (blockRefusals w b) tt
     (sym (answer-of-step (answerOf (blockRefusals w b)) w (afterBlock w b)) ∙ e)
     in
     record {
@@ -148,8 +139,7 @@ pub payment-accepted : (w : Wallet) (p : Transaction) → step w (payCall p) .an
 unfolding pay paymentRefusals
 payment-accepted w p e =
     let k : NoneGiven (paymentRefusals w p) =
-    none-given (paymentRefusals w p)
-    (omega arith, (omega arith, (omega arith, (omega arith, (omega arith, (omega arith, tt))))))
+    none-given (paymentRefusals w p) tt
     (sym (answer-of-step (answerOf (paymentRefusals w p)) w (afterPayment w p)) ∙ e)
     in
     record {
@@ -166,13 +156,10 @@ pub rollback-accepted : (w : Wallet) → step w backCall .answer ≡ 0 → Accep
 unfolding rollBack rollbackRefusals
 rollback-accepted w e =
     let k : NoneGiven (rollbackRefusals w) =
-    none-given (rollbackRefusals w) (omega arith, (omega arith, tt))
+    none-given (rollbackRefusals w) tt
     (sym (answer-of-step (answerOf (rollbackRefusals w)) w (afterRollback w)) ∙ e)
     in
     record { sound-before = not-not (sound w) (k .0); more-than-one = k .1 .0 }
-
-not-refused : (b : Bool) → T b → T (not (not b))
-not-refused b t = not-T (not b) (λ (n : T (not b)). T-not b n t)
 
 -- and the other way round: a block that is given no refusal is accepted
 pub block-accepts : (w : Wallet) (b : Block) → AcceptedBlock w b → step w (blockCall b) .answer ≡ 0
@@ -180,8 +167,8 @@ unfolding block blockRefusals
 block-accepts w b k =
     answer-of-step (answerOf (blockRefusals w b)) w (afterBlock w b)
     ∙ none-answered (blockRefusals w b) (
-      not-refused (sound w) (k .sound-before),
-      (not-refused (shapedBlock b) (k .shaped), (k .made-new, (k .consistent, (k .room, tt)))),
+      not-not-holds (sound w) (k .sound-before),
+      (not-not-holds (shapedBlock b) (k .shaped), (k .made-new, (k .consistent, (k .room, tt)))),
     )
 
 -- a payment that is given no refusal is accepted
@@ -190,9 +177,9 @@ unfolding pay paymentRefusals
 payment-accepts w p k =
     answer-of-step (answerOf (paymentRefusals w p)) w (afterPayment w p)
     ∙ none-answered (paymentRefusals w p) (
-      not-refused (sound w) (k .sound-before),
+      not-not-holds (sound w) (k .sound-before),
       (
-        not-refused (shapedTransaction p) (k .shaped),
+        not-not-holds (shapedTransaction p) (k .shaped),
         (k .number-new, (k .inputs-there, (k .paid-for, (k .room, tt)))),
       ),
     )
@@ -202,4 +189,4 @@ pub rollback-accepts : (w : Wallet) → AcceptedRollback w → step w backCall .
 unfolding rollBack rollbackRefusals
 rollback-accepts w k =
     answer-of-step (answerOf (rollbackRefusals w)) w (afterRollback w)
-    ∙ none-answered (rollbackRefusals w) (not-refused (sound w) (k .sound-before), (k .more-than-one, tt))
+    ∙ none-answered (rollbackRefusals w) (not-not-holds (sound w) (k .sound-before), (k .more-than-one, tt))

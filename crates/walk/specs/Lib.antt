@@ -6,4 +6,3 @@ pub mod Least
 pub mod Minimum
 pub mod Bounds
 pub mod Reorder
-pub mod Order

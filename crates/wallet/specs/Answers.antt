@@ -9,10 +9,9 @@ use native.Mathlib.Omega.{arith}
 use lib.Dec.{T, not-T, eqb, leb, ltb, leb→le, le→leb, eqb→eq}
 use lib.ListN.{take}
 use Rattle.sets.specs.Sets.{any, all, has, keep, total}
-use Rattle.sets.specs.Tests.{T-cases, and-left, and-right, equal-holds, cond-true, cond-false}
+use Rattle.sets.specs.Tests.{T-cases, and-left, and-right, equal-holds, cond-true, cond-false, not-not-holds}
 use Rattle.sets.specs.Laws.{all-elim}
-use Rattle.sets.specs.Maps.{any-map, all-same}
-use Rattle.sets.specs.Walks.{all-map}
+use Rattle.sets.specs.Maps.{any-map, all-same, all-map}
 use Rattle.rules.specs.declared.Number.{Number}
 use Rattle.rules.specs.declared.Entry.{Entry}
 use Rattle.rules.specs.Sizes.{mostPayments}
@@ -23,6 +22,7 @@ use Rattle.rules.specs.States.{afterBlock, afterPayment}
 use Rattle.rules.specs.Balances.{available}
 use Rattle.rules.specs.Sound.{tooMany, agree, agreeing, sound}
 use Rattle.rules.specs.Steps.{Refusal, answerOf, numberTaken, inputMissing, paysTooMuch, alreadyUnspent, contradicts, onlyOne, paymentRefusals, blockRefusals, rollbackRefusals}
+use Rattle.rules.specs.StepLaws.{given-first, given-later}
 use Rattle.chain.specs.View as ChainView
 use Rattle.chain.specs.View.{viewTransaction, viewBlock, laidOutBlock, goodTransaction, goodBlock, sameStruct}
 use Rattle.chain.specs.ViewLaws.{good-facts, good-block-facts, same-struct-view}
@@ -93,16 +93,6 @@ paymentsAgree w b =
 
 -- ── one refusal after another
 
-here : (n : ℕ) (b : Bool) (l : List Refusal) → T b → answerOf (record { number = n; given = b } ∷ l) ≡ n
-here n b l t = cond-true b n (answerOf l) t
-
-later : (n : ℕ) (b : Bool) (l : List Refusal) → T (not b) → answerOf (record { number = n; given = b } ∷ l) ≡ answerOf l
-later n b l t = cond-false b n (answerOf l) t
-
-passes : (b : Bool) → T b → T (not (not b))
-passes true t = tt
-passes false t = absurd t
-
 -- a conjunction that fails with its first part given
 second-fails : (a b : Bool) → T (not (a && b)) → T a → T (not b)
 second-fails true b t s = t
@@ -156,7 +146,7 @@ unfolding paymentRefusals
 pay-laid w t g l =
     cond-true (good w) (cond (ChainView.laidOut t) (answerOf (paymentRefusals (view w) (viewTransaction t))) 1) 9 g
     ∙ cond-true (ChainView.laidOut t) (answerOf (paymentRefusals (view w) (viewTransaction t))) 1 l
-    ∙ later 9 (not (sound (view w))) (pay1 (view w) (viewTransaction t)) (passes (sound (view w)) (good-view w g))
+    ∙ given-later 9 (not (sound (view w))) (pay1 (view w) (viewTransaction t)) (not-not-holds (sound (view w)) (good-view w g))
 
 -- 1: the layout or the shape is broken
 pub pay-1 : (w : Pool) (t : Transaction) → T (good w) → T (not (goodTransaction t)) → payAnswer w t ≡ 1
@@ -165,7 +155,7 @@ pay-1 w t g h =
     ⊎-elim
     (λ (l : T (ChainView.laidOut t)).
     pay-laid w t g l
-    ∙ here 1 (not (shapedTransaction (viewTransaction t))) (pay2 (view w) (viewTransaction t))
+    ∙ given-first 1 (not (shapedTransaction (viewTransaction t))) (pay2 (view w) (viewTransaction t))
     (second-fails (ChainView.laidOut t) (shapedTransaction (viewTransaction t)) h l))
     (λ (l : T (not (ChainView.laidOut t))).
     cond-true (good w) (cond (ChainView.laidOut t) (answerOf (paymentRefusals (view w) (viewTransaction t))) 1) 9 g
@@ -191,7 +181,7 @@ module _ (w : Pool) (t : Transaction) (g : T (good w)) (s : T (goodTransaction t
   pay-shaped =
       let f = good-facts t s in
       pay-laid w t g (f .0)
-      ∙ later 1 (not (shapedTransaction (viewTransaction t))) (pay2 (view w) (viewTransaction t)) (passes (shapedTransaction (viewTransaction t)) (f .1))
+      ∙ given-later 1 (not (shapedTransaction (viewTransaction t))) (pay2 (view w) (viewTransaction t)) (not-not-holds (shapedTransaction (viewTransaction t)) (f .1))
 
   number-test : numberTaken (view w) (t .number) ≡ numberUsed w (t .number)
   number-test = number-taken w (good-laid-out w g) (t .number)
@@ -200,34 +190,34 @@ module _ (w : Pool) (t : Transaction) (g : T (good w)) (s : T (goodTransaction t
   pub pay-2 : T (numberUsed w (t .number)) → payAnswer w t ≡ 2
   pay-2 h =
       pay-shaped
-      ∙ here 2 (numberTaken (view w) (t .number)) (pay3 (view w) (viewTransaction t)) (along (numberTaken (view w) (t .number)) (numberUsed w (t .number)) number-test h)
+      ∙ given-first 2 (numberTaken (view w) (t .number)) (pay3 (view w) (viewTransaction t)) (along (numberTaken (view w) (t .number)) (numberUsed w (t .number)) number-test h)
 
   module _ (new : T (not (numberUsed w (t .number)))) where
     not-taken : T (not (numberTaken (view w) (t .number)))
     not-taken = not-along (numberTaken (view w) (t .number)) (numberUsed w (t .number)) number-test new
 
     pay-new : payAnswer w t ≡ answerOf (pay3 (view w) (viewTransaction t))
-    pay-new = pay-shaped ∙ later 2 (numberTaken (view w) (t .number)) (pay3 (view w) (viewTransaction t)) not-taken
+    pay-new = pay-shaped ∙ given-later 2 (numberTaken (view w) (t .number)) (pay3 (view w) (viewTransaction t)) not-taken
 
     -- 3: an input is not available
     pub pay-3 : T (not (inputsFree w t)) → payAnswer w t ≡ 3
     pay-3 h =
         pay-new
-        ∙ here 3 (inputMissing (view w .present) (viewTransaction t)) (pay4 (view w) (viewTransaction t))
+        ∙ given-first 3 (inputMissing (view w .present) (viewTransaction t)) (pay4 (view w) (viewTransaction t))
         (along (inputMissing (view w .present) (viewTransaction t)) (not (inputsFree w t)) (missing-test w t) h)
 
     module _ (free : T (inputsFree w t)) where
       pay-free : payAnswer w t ≡ answerOf (pay4 (view w) (viewTransaction t))
       pay-free =
           pay-new
-          ∙ later 3 (inputMissing (view w .present) (viewTransaction t)) (pay4 (view w) (viewTransaction t))
-          (not-along (inputMissing (view w .present) (viewTransaction t)) (not (inputsFree w t)) (missing-test w t) (passes (inputsFree w t) free))
+          ∙ given-later 3 (inputMissing (view w .present) (viewTransaction t)) (pay4 (view w) (viewTransaction t))
+          (not-along (inputMissing (view w .present) (viewTransaction t)) (not (inputsFree w t)) (missing-test w t) (not-not-holds (inputsFree w t) free))
 
       -- 4: more goes out than comes in
       pub pay-4 : paidIn w t < paidOut t → payAnswer w t ≡ 4
       pay-4 h =
           pay-free
-          ∙ here 4 (paysTooMuch (view w .present) (viewTransaction t)) (pay7 (view w) (viewTransaction t))
+          ∙ given-first 4 (paysTooMuch (view w .present) (viewTransaction t)) (pay7 (view w) (viewTransaction t))
           (along (paysTooMuch (view w .present) (viewTransaction t)) (not (leb (paidOut t) (paidIn w t))) (too-much-test w t)
           (not-T (leb (paidOut t) (paidIn w t)) (λ (k : T (leb (paidOut t) (paidIn w t))). omega (arith, leb→le (paidOut t) (paidIn w t) k))))
 
@@ -235,9 +225,9 @@ module _ (w : Pool) (t : Transaction) (g : T (good w)) (s : T (goodTransaction t
         pay-covered : payAnswer w t ≡ answerOf (pay7 (view w) (viewTransaction t))
         pay-covered =
             pay-free
-            ∙ later 4 (paysTooMuch (view w .present) (viewTransaction t)) (pay7 (view w) (viewTransaction t))
+            ∙ given-later 4 (paysTooMuch (view w .present) (viewTransaction t)) (pay7 (view w) (viewTransaction t))
             (not-along (paysTooMuch (view w .present) (viewTransaction t)) (not (leb (paidOut t) (paidIn w t))) (too-much-test w t)
-            (passes (leb (paidOut t) (paidIn w t)) (le→leb (paidOut t) (paidIn w t) enough)))
+            (not-not-holds (leb (paidOut t) (paidIn w t)) (le→leb (paidOut t) (paidIn w t) enough)))
 
         room-test : tooMany (afterPayment (view w) (viewTransaction t)) ≡ not (leb (suc (w .paying)) mostPayments)
         room-test = payment-room w g t s not-taken
@@ -246,7 +236,7 @@ module _ (w : Pool) (t : Transaction) (g : T (good w)) (s : T (goodTransaction t
         pub pay-7 : mostPayments ≤ w .paying → payAnswer w t ≡ 7
         pay-7 h =
             pay-covered
-            ∙ here 7 (tooMany (afterPayment (view w) (viewTransaction t))) []
+            ∙ given-first 7 (tooMany (afterPayment (view w) (viewTransaction t))) []
             (along (tooMany (afterPayment (view w) (viewTransaction t))) (not (leb (suc (w .paying)) mostPayments)) room-test
             (not-T (leb (suc (w .paying)) mostPayments) (λ (k : T (leb (suc (w .paying)) mostPayments)). omega (arith, leb→le (suc (w .paying)) mostPayments k))))
 
@@ -254,9 +244,9 @@ module _ (w : Pool) (t : Transaction) (g : T (good w)) (s : T (goodTransaction t
         pub pay-0 : w .paying < mostPayments → payAnswer w t ≡ 0
         pay-0 h =
             pay-covered
-            ∙ later 7 (tooMany (afterPayment (view w) (viewTransaction t))) []
+            ∙ given-later 7 (tooMany (afterPayment (view w) (viewTransaction t))) []
             (not-along (tooMany (afterPayment (view w) (viewTransaction t))) (not (leb (suc (w .paying)) mostPayments)) room-test
-            (passes (leb (suc (w .paying)) mostPayments) (le→leb (suc (w .paying)) mostPayments h)))
+            (not-not-holds (leb (suc (w .paying)) mostPayments) (le→leb (suc (w .paying)) mostPayments h)))
 
 -- ── a block
 
@@ -281,7 +271,7 @@ block-laid w b g l =
 
 block-sound : (w : Pool) (b : Block) → T (good w) → T (laidOutBlock b) → blockAnswer w b ≡ answerOf (block1 (view w) (viewBlock b))
 block-sound w b g l =
-    block-laid w b g l ∙ later 9 (not (sound (view w))) (block1 (view w) (viewBlock b)) (passes (sound (view w)) (good-view w g))
+    block-laid w b g l ∙ given-later 9 (not (sound (view w))) (block1 (view w) (viewBlock b)) (not-not-holds (sound (view w)) (good-view w g))
 
 -- the rules' answer to a block that is laid out: this one, and then the question of room
 pub block-then-room :
@@ -300,7 +290,7 @@ block-1 w b g h =
     ⊎-elim
     (λ (l : T (laidOutBlock b)).
     block-sound w b g l
-    ∙ here 1 (not (shapedBlock (viewBlock b))) (block5 (view w) (viewBlock b)) (second-fails (laidOutBlock b) (shapedBlock (viewBlock b)) h l))
+    ∙ given-first 1 (not (shapedBlock (viewBlock b))) (block5 (view w) (viewBlock b)) (second-fails (laidOutBlock b) (shapedBlock (viewBlock b)) h l))
     (λ (l : T (not (laidOutBlock b))).
     cond-true (good w) (cond (laidOutBlock b) (answerOf (blockTests (view w) (viewBlock b))) 1) 9 g
     ∙ cond-false (laidOutBlock b) (answerOf (blockTests (view w) (viewBlock b))) 1 l)
@@ -311,7 +301,7 @@ payments-test :
     (w : Pool) (b : Block) → T (good w) → T (laidOutBlock b) →
     all (λ u. all (λ q. agreeing u (viewTransaction (q .transaction))) (paymentsOf w)) (viewBlock b) ≡ paymentsAgree w b
 payments-test w b g l =
-    all-map viewTransaction (λ u. all (λ q. agreeing u (viewTransaction (q .transaction))) (paymentsOf w)) (take (b .count) (b .transactions))
+    all-map (λ u. all (λ q. agreeing u (viewTransaction (q .transaction))) (paymentsOf w)) viewTransaction (take (b .count) (b .transactions))
     ∙ all-same
     (λ t. all (λ q. agreeing (viewTransaction t) (viewTransaction (q .transaction))) (paymentsOf w))
     (λ t. all (λ q. not (sameNumber (t .number) (q .transaction .number)) || sameStruct t (q .transaction)) (paymentsOf w))
@@ -335,12 +325,12 @@ module _ (w : Pool) (b : Block) (g : T (good w)) (s : T (goodBlock b)) where
   block-shaped =
       let f = good-block-facts b s in
       block-sound w b g (f .0)
-      ∙ later 1 (not (shapedBlock (viewBlock b))) (block5 (view w) (viewBlock b)) (passes (shapedBlock (viewBlock b)) (f .1))
+      ∙ given-later 1 (not (shapedBlock (viewBlock b))) (block5 (view w) (viewBlock b)) (not-not-holds (shapedBlock (viewBlock b)) (f .1))
 
   -- 5: an output is in the present UTxO
   pub block-5 : T (unspentMade w b) → blockAnswer w b ≡ 5
   unfolding alreadyUnspent
-  block-5 h = block-shaped ∙ here 5 (unspentMade w b) (block6 (view w) (viewBlock b)) h
+  block-5 h = block-shaped ∙ given-first 5 (unspentMade w b) (block6 (view w) (viewBlock b)) h
 
   contradicts-test : contradicts (view w) (viewBlock b) ≡ (not (outputsAgree w b) || not (paymentsAgree w b))
   contradicts-test =
@@ -350,20 +340,20 @@ module _ (w : Pool) (b : Block) (g : T (good w)) (s : T (goodBlock b)) where
   module _ (new : T (not (unspentMade w b))) where
     block-new : blockAnswer w b ≡ answerOf (block6 (view w) (viewBlock b))
     unfolding alreadyUnspent
-    block-new = block-shaped ∙ later 5 (unspentMade w b) (block6 (view w) (viewBlock b)) new
+    block-new = block-shaped ∙ given-later 5 (unspentMade w b) (block6 (view w) (viewBlock b)) new
 
     -- 6: an output or a transaction disagrees with what is held
     pub block-6 : T (not (outputsAgree w b) || not (paymentsAgree w b)) → blockAnswer w b ≡ 6
     block-6 h =
         block-new
-        ∙ here 6 (contradicts (view w) (viewBlock b)) []
+        ∙ given-first 6 (contradicts (view w) (viewBlock b)) []
         (along (contradicts (view w) (viewBlock b)) (not (outputsAgree w b) || not (paymentsAgree w b)) contradicts-test h)
 
     -- 0: none of these
     pub block-0 : T (not (not (outputsAgree w b) || not (paymentsAgree w b))) → blockAnswer w b ≡ 0
     block-0 h =
         block-new
-        ∙ later 6 (contradicts (view w) (viewBlock b)) []
+        ∙ given-later 6 (contradicts (view w) (viewBlock b)) []
         (not-along (contradicts (view w) (viewBlock b)) (not (outputsAgree w b) || not (paymentsAgree w b)) contradicts-test h)
 
 -- ── a rollback
@@ -376,18 +366,18 @@ back-sound : (w : Pool) → T (good w) → backAnswer w ≡ answerOf (record { n
 unfolding rollbackRefusals
 back-sound w g =
     cond-true (good w) (answerOf (rollbackRefusals (view w))) 9 g
-    ∙ later 9 (not (sound (view w))) (record { number = 8; given = onlyOne (view w .below) } ∷ []) (passes (sound (view w)) (good-view w g))
+    ∙ given-later 9 (not (sound (view w))) (record { number = 8; given = onlyOne (view w .below) } ∷ []) (not-not-holds (sound (view w)) (good-view w g))
 
 -- 8: no state lies below the present one
 pub back-8 : (w : Pool) → T (good w) → w .below ≡ 0 → backAnswer w ≡ 8
 back-8 w g h =
     back-sound w g
-    ∙ here 8 (onlyOne (view w .below)) [] (along (onlyOne (view w .below)) (eqb (w .below) 0) (only-one w) (equal-holds (w .below) 0 h))
+    ∙ given-first 8 (onlyOne (view w .below)) [] (along (onlyOne (view w .below)) (eqb (w .below) 0) (only-one w) (equal-holds (w .below) 0 h))
 
 -- 0: one does
 pub back-0 : (w : Pool) → T (good w) → (w .below ≡ 0 → ⊥) → backAnswer w ≡ 0
 back-0 w g h =
     back-sound w g
-    ∙ later 8 (onlyOne (view w .below)) []
+    ∙ given-later 8 (onlyOne (view w .below)) []
     (not-along (onlyOne (view w .below)) (eqb (w .below) 0) (only-one w)
     (not-T (eqb (w .below) 0) (λ (k : T (eqb (w .below) 0)). h (eqb→eq (w .below) 0 k))))

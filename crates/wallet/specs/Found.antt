@@ -1,42 +1,38 @@
 -- What a search for references tells: a place below the end of the list searched, exactly where the reference is in it.
 -- And so what the code's searches tell of a payment's inputs and of a block's outputs.
-use Prim.Native.Nat.{ℕ, _≤_, _<_, min}
-use mathlib.Core.Path.{_≡_, refl, sym, ap, ap₂, subst, _∙_}
-use mathlib.Core.Bool.{Bool, true, false, not}
-use mathlib.Core.List.{List, [], _∷_, _++_, map, append-nil, List·Memᴰ, List·Memᴰ·head, Memᴰ·append-left}
+use Prim.Native.Nat.{ℕ, _<_, min}
+use mathlib.Core.Path.{_≡_, refl, sym, ap, ap₂, _∙_}
+use mathlib.Core.Bool.{Bool}
+use mathlib.Core.List.{List, [], _∷_, map, append-nil}
 use native.Mathlib.Omega.{arith}
 use lib.Dec.{T, ltb}
 use lib.ListN.{length, getD, take, length-map, length-take}
-use lib.Seq.{getD-take}
 use Rattle.sets.specs.Sets.{any, all, has, keep}
-use Rattle.sets.specs.Laws.{keep-from, gather-intro}
-use Rattle.sets.specs.Maps.{any-map, any-same, all-same}
-use Rattle.sets.specs.Walks.{all-map}
-use Rattle.sets.specs.Fill.{filled, filled-first, mapped-at}
+use Rattle.sets.specs.Laws.{keep-from}
+use Rattle.sets.specs.Maps.{any-map, any-same, all-same, all-map}
+use Rattle.sets.specs.Fill.{filled-first}
 use Rattle.rules.specs.declared.Reference.{Reference}
 use Rattle.rules.specs.declared.Entry.{Entry}
-use Rattle.rules.specs.Sizes.{largestAmount}
 use Rattle.rules.specs.Chain.{sameReference, sameEntry, made, spent}
-use Rattle.rules.specs.States.{State, states}
 use Rattle.rules.specs.Balances.{available}
 use Rattle.rules.specs.Sound.{agree}
-use Rattle.chain.specs.View.{zeroReference, viewTransaction, viewBlock}
+use Rattle.chain.specs.View.{viewTransaction, viewBlock}
 use Rattle.chain.specs.declared.Transaction.{Transaction}
 use Rattle.chain.specs.declared.Block.{Block}
 use Rattle.pool.specs.declared.Pool.{Pool}
 use Rattle.pool.specs.View.{entriesOf, utxoAt, view}
 use Rattle.pool.specs.Good.{good}
-use Rattle.pool.specs.LayoutLaws.{good-layout, good-sound}
+use Rattle.pool.specs.LayoutLaws.{good-layout}
 use Rattle.flat.specs.declared.Refs.{Refs}
 use Rattle.flat.specs.declared.Made.{Made}
 use Rattle.flat.specs.declared.Places.{Places}
 use Rattle.flat.specs.Flat.{zeroEntry, refsOf, madeOf, placesOf, blockOf, refsIn, madeIn, seek}
 use Rattle.flat.specs.SeekLaws.{seek-found}
+use Rattle.flat.specs.Told.{refs-back, made-back, count-of, tells}
 use Rattle.audit.specs.Audit.{agreesFirst}
 use Rattle.audit.specs.AuditLaws.{all-agree-first}
 use Rattle.balance.specs.Worth.{worthWithin}
-use Rattle.balance.specs.WorthLaws.{within-worth}
-use Rattle.balance.specs.Picked.{refs-back, made-back, found-there}
+use Rattle.balance.specs.WorthLaws.{within-worth, available-within}
 use Rattle.wallet.specs.Answers.{inputsFree, paidIn, unspentMade, outputsAgree}
 
 -- the place of one entry's reference, read off the array of places
@@ -46,22 +42,9 @@ pub found-here :
     stop ≡ min (those .count) 128 → k < min (list .count) 128 →
     ltb (getD (places .at) k 0) stop ≡ has sameReference ((getD (list .entries) k zeroEntry) .reference) (refsIn those)
 found-here list those these places stop k g h e f s u =
-    found-there (places .at) sought (refsIn those) stop k where-found (omega (arith, length-take (those .count) (those .refs)))
-    (omega (arith, within, length-map (madeIn list) (λ (x : Entry). x .reference)))
-    ∙ ap (λ (r : Reference). has sameReference r (refsIn those))
-    (mapped-at (λ (x : Entry). x .reference) (madeIn list) k zeroEntry zeroReference within
-    ∙ ap (λ (x : Entry). x .reference) (getD-take (list .count) (list .entries) k zeroEntry (omega arith)))
-  where
-    sought : List Reference
-    sought = map (λ x. x .reference) (madeIn list)
-
-    within : k < length (madeIn list)
-    within = omega (arith, length-take (list .count) (list .entries))
-
-    where-found : places .at ≡ filled 128 0 (map (λ x. seek x (refsIn those)) sought)
-    where-found =
-        ap (λ (q : Places). q .at) f
-        ∙ ap (λ (l : List Reference). filled 128 0 (map (λ x. seek x (refsIn those)) l)) (ap refsIn e ∙ refs-back sought)
+    tells (λ (x : Entry). x .reference) (list .entries) (list .count) these e zeroEntry those places (refsIn those) stop refl f
+    (omega (arith, length-take (those .count) (those .refs))) k
+    (omega (arith, count-of (λ (x : Entry). x .reference) (list .entries) (list .count) these e))
 
 -- every reference was found, told by their places
 pub all-sought :
@@ -71,7 +54,7 @@ pub all-sought :
 all-sought these those places stop e f =
     ap (λ (p : Places). all (λ a. ltb a stop) (take (p .count) (p .at))) e
     ∙ ap (all (λ a. ltb a stop)) (filled-first 128 0 (map (λ x. seek x (refsIn those)) (refsIn these)))
-    ∙ all-map (λ x. seek x (refsIn those)) (λ a. ltb a stop) (refsIn these)
+    ∙ all-map (λ a. ltb a stop) (λ x. seek x (refsIn those)) (refsIn these)
     ∙ all-same (λ x. ltb (seek x (refsIn those)) stop) (λ x. has sameReference x (refsIn those)) (refsIn these)
     (λ x m. ap (ltb (seek x (refsIn those))) f ∙ seek-found x (refsIn those))
 
@@ -146,15 +129,6 @@ outputs-found w b out unspent these those places e f g h k =
     utxo : List Entry
     utxo = utxoAt 0 (entriesOf w)
 
--- no available entry of a sound wallet is above the limit
-available-amount : (w : Pool) → T (good w) → (e : Entry) → List·Memᴰ e (available (view w .present)) → e .amount ≤ largestAmount
-unfolding available
-available-amount w g e m =
-    good-sound w g .amounts e
-    (gather-intro (λ (s : State). s .utxo ++ s .expected) {l = states (view w)} (List·Memᴰ·head refl)
-    (Memᴰ·append-left (view w .present .expected)
-    (keep-from (λ x. not (has sameReference (x .reference) (spent (view w .present .pending)))) (view w .present .utxo) m)))
-
 -- 4: what the available entries that the inputs take are worth
 pub inputs-worth :
     (w : Pool) (t : Transaction) (alone : Block) (free taken : Made) (inputs : Refs) → T (good w) → alone ≡ blockOf (t ∷ []) →
@@ -167,7 +141,7 @@ inputs-worth w t alone free taken inputs good-one e f g h =
     ∙ ap (λ (l : List Reference). keep (λ x. has sameReference (x .reference) l) (madeIn free)) (alone-spends t alone inputs e g)
     ∙ ap (keep isInput) (ap madeIn f ∙ made-back (available (view w .present))))
     ∙ within-worth (keep isInput (available (view w .present)))
-    (λ x m. available-amount w good-one x (keep-from isInput (available (view w .present)) m))
+    (λ x m. available-within w good-one x (keep-from isInput (available (view w .present)) m))
   where
     isInput : Entry → Bool
     isInput x = has sameReference (x .reference) (viewTransaction t .inputs)
@@ -179,13 +153,3 @@ pub outputs-told :
 outputs-told w b out g e =
     all-agree-first (entriesOf w) (madeIn out) (good-layout w g .entries-ascend)
     ∙ ap (all (λ o. all (λ h. agree o (h .entry)) (entriesOf w))) (ap madeIn e ∙ made-back (made (viewBlock b)))
-
--- ── a flag that a guard looks at
-
--- the test holds
-pub held : (flag test : Bool) → flag ≡ test → flag ≡ true → T test
-held flag test e f = subst (λ (b : Bool). T b) (sym f ∙ e) tt
-
--- the test fails
-pub failed : (flag test : Bool) → flag ≡ test → flag ≡ false → T (not test)
-failed flag test e f = subst (λ (b : Bool). T (not b)) (sym f ∙ e) tt

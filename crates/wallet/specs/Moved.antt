@@ -1,25 +1,23 @@
 -- A movement: the difference of two available balances, as a signed 64-bit number.
-use Prim.Native.Nat.{ℕ, zero, suc, _-_, _^_, _≤_, _<_}
+use Prim.Native.Nat.{ℕ, _-_, _^_, _≤_, _<_}
 use native.Mathlib.Omega.{arith}
 use mathlib.Core.Path.{_≡_, sym, ap, ap₂, subst, _∙_}
-use mathlib.Core.Bool.{true, false, cond}
-use lib.Dec.{T, ltb}
-use lib.IntN.{ℤ, pos, negsuc, _-ℤ_}
+use lib.Dec.{T}
+use lib.IntN.{ℤ, pos, negsuc, _-ℤ_, natAbs}
 use lib.Signed.{mag}
 use mir.Syntax.{w64}
 use mir.Val.{SFits, toZ, ofZ}
 use mir.Facts.{toZ-pos, toZ-ofZ}
 use Rattle.rules.specs.Balances.{availableBalance}
-use Rattle.soundness.specs.Bounds.{available-bound}
+use Rattle.soundness.specs.Bounds.{available-bound, difference-bound}
 use Rattle.pool.specs.declared.Pool.{Pool}
 use Rattle.pool.specs.View.{view}
 use Rattle.pool.specs.Good.{good}
 use Rattle.pool.specs.LayoutLaws.{good-view}
 
-difference-most : (n a b : ℕ) → a ≤ n → b ≤ n → mag (pos a -ℤ pos b) ≤ n
-difference-most n a zero h k = omega arith
-difference-most n a (suc b) h k =
-    elim (ltb a (suc b)) as (λ c. mag (cond c (negsuc (suc b - suc a)) (pos (a - suc b))) ≤ n) [ true ↦ omega arith | false ↦ omega arith ]
+mag-most : (z : ℤ) → mag z ≤ natAbs z
+mag-most (pos n) = omega arith
+mag-most (negsuc n) = omega arith
 
 -- read as signed, two numbers below half the range are themselves
 signed-difference : (a b : ℕ) → a < 2 ^ 63 → b < 2 ^ 63 → toZ w64 a -ℤ toZ w64 b ≡ pos a -ℤ pos b
@@ -27,7 +25,7 @@ signed-difference a b h k = ap₂ _-ℤ_ (toZ-pos w64 h) (toZ-pos w64 k)
 
 difference-signed : (a b : ℕ) → a < 2 ^ 63 → b < 2 ^ 63 → SFits w64 (pos a -ℤ pos b)
 difference-signed a b h k =
-    record { sfits = omega (arith, difference-most (2 ^ 63 - 1) a b (omega arith) (omega arith)) }
+    record { sfits = omega (arith, mag-most (pos a -ℤ pos b), difference-bound (2 ^ 63 - 1) a b (omega arith) (omega arith)) }
 
 -- their difference fits
 pub difference-fits : (a b : ℕ) → a < 2 ^ 63 → b < 2 ^ 63 → SFits w64 (toZ w64 a -ℤ toZ w64 b)

@@ -12,15 +12,14 @@ use Rattle.sets.specs.Fill.{filled, filled-length, filled-first, filled-rest}
 use Rattle.sets.specs.Sets.{ascending}
 use Rattle.sets.specs.Tests.{and-left, cond-true, cond-false}
 use Rattle.rules.specs.Sizes.{mostOwn, mostPayments, mostReferences}
-use Rattle.rules.specs.Chain.{sameNumber, shapedOwn}
+use Rattle.rules.specs.Chain.{shapedOwn}
 use Rattle.rules.specs.States.{opened}
 use Rattle.rules.specs.Steps as Steps
-use Rattle.chain.specs.View.{noTransaction}
 use Rattle.pool.specs.declared.Pool.{Pool}
 use Rattle.pool.specs.View.{view}
 use Rattle.pool.specs.Good.{noHeld, noPayment, laidOut}
 use Rattle.pool.specs.Book.{zeroHeld, zeroPayment}
-use Rattle.pool.specs.LayoutLaws.{facts-laid-out}
+use Rattle.pool.specs.LayoutLaws.{facts-laid-out, zero-held, zero-payment}
 use Rattle.wallet.specs.declared.Step.{Step}
 use Rattle.wallet.specs.Contract.{Reads}
 
@@ -40,14 +39,6 @@ emptyPool own =
 -- it shows the wallet that the rules open
 pub empty-view : (own : List ℕ) → view (emptyPool own) ≡ opened own
 empty-view own = ap opened (filled-first mostOwn 0 own)
-
-zero-held : T (noHeld zeroHeld)
-unfolding sameNumber
-zero-held = tt
-
-zero-payment : T (noPayment zeroPayment)
-unfolding sameNumber noTransaction
-zero-payment = tt
 
 -- it is laid out
 pub empty-laid-out : (own : List ℕ) → length own ≤ mostOwn → T (laidOut (emptyPool own))

@@ -27,7 +27,7 @@ use Rattle.pool.specs.BlockEntries.{entriesBooked, paymentsBooked}
 use Rattle.flat.specs.declared.Refs.{Refs}
 use Rattle.flat.specs.declared.Made.{Made}
 use Rattle.flat.specs.Flat.{refsOf, madeOf, refsIn, madeIn}
-use Rattle.balance.specs.Picked.{refs-back, made-back}
+use Rattle.flat.specs.Told.{refs-back, made-back}
 use Rattle.booking.specs.declared.Kept.{Kept}
 use Rattle.booking.specs.declared.Merged.{Merged}
 use Rattle.booking.specs.declared.Paying.{Paying}

@@ -1,17 +1,16 @@
 -- What the code's answer to a payment, a block and a rollback says before it books, and that the booked pool with its
 -- movement is the rules' step.
-use Prim.Native.Nat.{ℕ, zero, suc, _≤_, _<_}
+use Prim.Native.Nat.{ℕ, suc, _≤_, _<_}
 use native.Mathlib.Omega.{arith}
 use mathlib.Core.Path.{_≡_, refl, sym, ap, subst, _∙_}
 use mathlib.Core.Logic.{⊎-elim}
 use mathlib.Core.Bool.{Bool, true, false, not, cond, _||_}
-use mathlib.Core.List.{List, [], _∷_, map}
-use lib.Dec.{T, T-not, not-T, eqb, leb, eqb→eq, leb→le, le→leb}
+use mathlib.Core.List.{map}
+use lib.Dec.{T, not-T, eqb, leb, eqb→eq, leb→le, le→leb}
 use lib.IntN.{ℤ}
 use lib.ListN.{length, length-map}
-use Rattle.sets.specs.Sets.{all}
 use Rattle.sets.specs.Laws.{keep-length}
-use Rattle.sets.specs.Tests.{T-cases, and-left, and-right, and-both, not-not, equal-holds, cond-true, cond-false}
+use Rattle.sets.specs.Tests.{T-cases, and-both, not-not, equal-holds, cond-true, cond-false, neqb→ne}
 use Rattle.rules.specs.Sizes.{mostPayments, mostReferences}
 use Rattle.rules.specs.Chain as Chain
 use Rattle.rules.specs.Chain.{spent, shapedTransaction, shapedBlock}
@@ -19,9 +18,9 @@ use Rattle.rules.specs.States as States
 use Rattle.rules.specs.States.{afterBlock, afterPayment, afterRollback}
 use Rattle.rules.specs.Sound.{tooMany}
 use Rattle.rules.specs.Steps as Steps
-use Rattle.rules.specs.Steps.{Refusal, answerOf, stepTo, alreadyUnspent, contradicts, paymentRefusals, blockRefusals, rollbackRefusals}
+use Rattle.rules.specs.Steps.{answerOf, stepTo, alreadyUnspent, contradicts, paymentRefusals, blockRefusals, rollbackRefusals}
 use Rattle.rules.specs.Calls.{payCall, backCall, step}
-use Rattle.soundness.specs.Refused.{AcceptedBlock, payment-accepted, rollback-accepted}
+use Rattle.soundness.specs.Refused.{AcceptedBlock, payment-accepted, rollback-accepted, none-given}
 use Rattle.chain.specs.declared.Transaction.{Transaction}
 use Rattle.chain.specs.declared.Block.{Block}
 use Rattle.chain.specs.View as ChainView
@@ -117,10 +116,6 @@ back-answer-0 : (v : States.Wallet) → answerOf (rollbackRefusals v) ≡ 0 → 
 unfolding Steps.rollBack
 back-answer-0 v e = ap (λ (n : ℕ). stepTo n v (afterRollback v) .answer) e
 
-more-than-none : (n : ℕ) → T (not (eqb n 0)) → 0 < n
-more-than-none zero t = absurd t
-more-than-none (suc n) t = omega arith
-
 -- the answer 0 tells all of this
 pub returnable : (w : Pool) → backAnswer w ≡ 0 → Returnable w
 returnable w e =
@@ -129,7 +124,7 @@ returnable w e =
     let b = rollback-good w (f .0) k in
     record {
       sound-before = f .0;
-      some-below = more-than-none (w .below) (subst (λ (c : Bool). T (not c)) (only-one w) (k .more-than-one));
+      some-below = omega (arith, neqb→ne (w .below) 0 (subst (λ (c : Bool). T (not c)) (only-one w) (k .more-than-one)));
       shows = b .0;
       sound-after = b .1;
     }
@@ -155,25 +150,6 @@ pub record Tested (w : Pool) (b : Block) : Type 0 where
   pub shaped : T (shapedBlock (viewBlock b))
   pub made-new : T (not (alreadyUnspent (view w .present) (viewBlock b)))
   pub consistent : T (not (contradicts (view w) (viewBlock b)))
-
--- none of some refusals is given
-abbrev NoneGiven : List Refusal → Type 0
-NoneGiven [] = Unit {0}
-NoneGiven (r ∷ l) = T (not (r .given)) × NoneGiven l
-
-none-given : (l : List Refusal) → T (all (λ r. not (eqb (r .number) 0)) l) → answerOf l ≡ 0 → NoneGiven l
-none-given [] t e = tt
-none-given (r ∷ l) t e =
-    (elim (r .given) as (λ b. cond b (r .number) (answerOf l) ≡ 0 → T (not b) × NoneGiven l) [
-      | true ↦
-          λ (z : r .number ≡ 0).
-          absurd
-          (T-not (eqb (r .number) 0)
-          (and-left (not (eqb (r .number) 0)) (all (λ q. not (eqb (q .number) 0)) l) t)
-          (equal-holds (r .number) 0 z))
-      | false ↦ λ (z : answerOf l ≡ 0). (tt, none-given l (and-right (not (eqb (r .number) 0)) (all (λ q. not (eqb (q .number) 0)) l) t) z)
-    ])
-    e
 
 -- the answer 0 tells all of this
 pub tested : (w : Pool) (b : Block) → blockAnswer w b ≡ 0 → Tested w b

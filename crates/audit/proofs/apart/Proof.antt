@@ -2,9 +2,8 @@
 -- of all.
 use Prim.Native.Nat.{ℕ, suc, _+_, _-_, _/_, _≤_, _<_}
 use mathlib.Core.Path.{_≡_, refl, sym, ap, _∙_}
-use mathlib.Core.Bool.{Bool, not, _&&_}
+use mathlib.Core.Bool.{Bool, not, _&&_, and-true, and-assoc}
 use native.Mathlib.Omega.{arith}
-use Rattle.sets.specs.Walks.{and-true, and-assoc}
 use Rattle.rules.specs.Sizes.{mostStates}
 use Rattle.pool.specs.Marks.{marked, apartMarks}
 use borrow.Author.Needs.{needs}
@@ -25,7 +24,7 @@ marks-step :
     (ok && apartMarks (n - i) x y) ≡ r → ((ok && not (marked 0 x && marked 0 y)) && apartMarks (n - (i + 1)) (x / 2) (y / 2)) ≡ r
 marks-step n i x y ok r h e =
     let left : n - i ≡ suc (n - (i + 1)) = omega arith in
-    sym (and-assoc ok (not (marked 0 x && marked 0 y)) (apartMarks (n - (i + 1)) (x / 2) (y / 2)))
+    and-assoc ok (not (marked 0 x && marked 0 y)) (apartMarks (n - (i + 1)) (x / 2) (y / 2))
     ∙ ap (λ (k : ℕ). ok && apartMarks k x y) (sym left)
     ∙ e
 

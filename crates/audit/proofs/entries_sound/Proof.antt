@@ -8,7 +8,8 @@ use lib.ListN.{length, take, drop}
 use lib.Seq.{length-take-le}
 use native.Mathlib.Omega.{arith}
 use Rattle.sets.specs.Sets.{all, ascending}
-use Rattle.sets.specs.Walks.{joined, joined-every, mapped-length}
+use Rattle.sets.specs.Walks.{joined, joined-every}
+use Rattle.sets.specs.Fill.{mapped-length}
 use Rattle.rules.specs.Sizes.{mostOwn, mostStates, mostReferences}
 use Rattle.rules.specs.Chain.{shapedOwn}
 use Rattle.pool.specs.declared.Pool.{Pool}

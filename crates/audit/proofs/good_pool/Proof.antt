@@ -5,8 +5,7 @@ use mathlib.Core.List.{List, map, map-map}
 use lib.Dec.{T}
 use lib.ListN.{length}
 use Rattle.sets.specs.Sets.{all}
-use Rattle.sets.specs.Fill.{filled-first}
-use Rattle.sets.specs.Walks.{mapped-length}
+use Rattle.sets.specs.Fill.{filled-first, mapped-length}
 use Rattle.rules.specs.declared.Entry.{Entry}
 use Rattle.rules.specs.Sizes.{mostOwn, mostTransactions, mostPayments, mostReferences}
 use Rattle.rules.specs.Chain.{made}

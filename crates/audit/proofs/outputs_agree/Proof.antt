@@ -5,8 +5,8 @@ use mathlib.Core.Path.{_≡_, refl, ap, _∙_}
 use native.Mathlib.Omega.{arith}
 use lib.ListN.{length, take, length-map}
 use Rattle.sets.specs.Sets.{all}
-use Rattle.sets.specs.Walks.{all-step, mapped-length}
-use Rattle.sets.specs.Fill.{take-done}
+use Rattle.sets.specs.Walks.{all-step}
+use Rattle.sets.specs.Fill.{take-done, mapped-length}
 use Rattle.rules.specs.Sizes.{mostReferences}
 use Rattle.rules.specs.declared.Entry.{Entry}
 use Rattle.pool.specs.declared.Held.{Held}

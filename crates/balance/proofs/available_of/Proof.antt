@@ -16,7 +16,8 @@ use Rattle.pool.specs.View.{paymentsOf, pendingAt}
 use Rattle.pool.specs.RefusalLaws.{isAvailable, available-places}
 use Rattle.pool.specs.declared.Held.{Held}
 use Rattle.flat.specs.Flat.{madeOf, zeroEntry}
-use Rattle.balance.specs.Picked.{entryAt, picked-all, picked-held, taken-back, refs-many, found-of}
+use Rattle.flat.specs.Told.{count-of}
+use Rattle.balance.specs.Picked.{entryAt, picked-all, picked-held, taken-back, found-of}
 use borrow.Author.Needs.{needs}
 use Rattle.balance.proofs.available_of.Statement.{statement}
 use Rattle.balance.proofs.available_of.Tie as tie
@@ -53,7 +54,7 @@ loop-holds c =
     let places : length (w .entries) ≡ 128 = search (needs, mapped-length) in (
       places,
       search (needs, mapped-length),
-      gaining-start mostReferences zeroEntry (live (w .entries) at (c .before .before .before .before .spent-of .result .count)) (entryAt (w .entries)) _ _ (omega (arith, refs-many (λ (h : Held). h .entry .reference) (w .entries) (w .used) _ (c .before .before .before .held-refs .ensures))) (ap (replicate 128) (c .zero-entry .ensures)),
+      gaining-start mostReferences zeroEntry (live (w .entries) at (c .before .before .before .before .spent-of .result .count)) (entryAt (w .entries)) _ _ (omega (arith, count-of (λ (h : Held). h .entry .reference) (w .entries) (w .used) _ (c .before .before .before .held-refs .ensures))) (ap (replicate 128) (c .zero-entry .ensures)),
     )
 
 mul-held : tie.Need-mul-held Inv-loop μ-loop
@@ -104,7 +105,7 @@ returns c =
     let places : length (w .entries) ≡ 128 = c .before .loop .inv .0 in
     let taken = taken-back (paymentsOf w) _ _ (c .before .before .before .before .before .before .before .pending-block .ensures) (c .before .before .before .before .before .before .spent-of .ensures) in
     picked-all _ _ _ _ _ (c .before .loop .i) (search needs) (c .before .loop .inv .2)
-    ∙ picked-held _ (isAvailable (paymentsOf w)) (w .entries) (w .used) _ places (omega (arith, refs-many (λ (h : Held). h .entry .reference) (w .entries) (w .used) _ (c .before .before .before .before .before .held-refs .ensures)))
+    ∙ picked-held _ (isAvailable (paymentsOf w)) (w .entries) (w .used) _ places (omega (arith, count-of (λ (h : Held). h .entry .reference) (w .entries) (w .used) _ (c .before .before .before .before .before .held-refs .ensures)))
     (λ j h.
     ap (λ (b : Bool). marked 0 ((getD (w .entries) j zeroHeld) .utxo) && not b)
     (found-of (λ (h : Held). h .entry .reference) (w .entries) (w .used) _ (c .before .before .before .before .before .held-refs .ensures) zeroHeld (spent (pendingAt 0 (paymentsOf w))) _ _ j taken (c .before .before .before .before .sought .ensures) h))

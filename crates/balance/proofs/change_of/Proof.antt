@@ -17,7 +17,8 @@ use Rattle.chain.specs.View.{viewBlock}
 use Rattle.pool.specs.View.{entriesOf, paymentsOf, pendingAt, view}
 use Rattle.pool.specs.BalanceLaws.{isChange}
 use Rattle.flat.specs.Flat.{zeroEntry}
-use Rattle.balance.specs.Picked.{picked-all, picked-made, made-fits, taken-back, outputs-back, free-back, refs-many, found-of, change-told}
+use Rattle.flat.specs.Told.{count-of}
+use Rattle.balance.specs.Picked.{picked-all, picked-made, made-fits, taken-back, outputs-back, free-back, found-of, change-told}
 use borrow.Author.Needs.{needs}
 use Rattle.balance.proofs.change_of.Statement.{statement}
 use Rattle.balance.proofs.change_of.Tie as tie
@@ -166,7 +167,7 @@ returns c =
     picked-all _ _ _ _ _ (c .before .loop .i) (search needs) (c .before .loop .inv .3)
     ∙ picked-made _ (isChange (take (w .owns) (w .own)) (entriesOf w) (paymentsOf w)) (made (pendingAt 0 (paymentsOf w))) outputs made-here places
     (λ j h.
-    let inside : j < c .before .before .before .before .before .before .before .before .before .before .before .before .before .made-refs .result .count = omega (arith, refs-many (λ (e : Entry). e .reference) (outputs .entries) (outputs .count) _ (c .before .before .before .before .before .before .before .before .before .before .before .before .before .made-refs .ensures)) in
+    let inside : j < c .before .before .before .before .before .before .before .before .before .before .before .before .before .made-refs .result .count = omega (arith, count-of (λ (e : Entry). e .reference) (outputs .entries) (outputs .count) _ (c .before .before .before .before .before .before .before .before .before .before .before .before .before .made-refs .ensures)) in
     change-told w _ (getD (outputs .entries) j zeroEntry) _ _ list
     (found-of (λ (e : Entry). e .reference) (outputs .entries) (outputs .count) _ (c .before .before .before .before .before .before .before .before .before .before .before .before .before .made-refs .ensures) zeroEntry (spent (pendingAt 0 (paymentsOf w))) _ _ j taken (c .before .before .before .before .before .before .before .before .before .before .sought .ensures) inside)
     (found-of (λ (e : Entry). e .reference) (outputs .entries) (outputs .count) _ (c .before .before .before .before .before .before .before .before .before .before .before .before .before .made-refs .ensures) zeroEntry (map (λ (e : Entry). e .reference) (available (view w .present))) _ _ j free (c .before .before .before .before .before .before .before .before .sought2 .ensures) inside))

@@ -5,7 +5,8 @@ use mathlib.Core.Bool.{Bool}
 use mathlib.Core.List.{[], _∷_}
 use lib.ListN.{length, take, drop}
 use Rattle.sets.specs.Sets.{all, ascending}
-use Rattle.sets.specs.Walks.{joined, joined-every, mapped-length}
+use Rattle.sets.specs.Walks.{joined, joined-every}
+use Rattle.sets.specs.Fill.{mapped-length}
 use Rattle.rules.specs.Sizes.{mostTransactions}
 use Rattle.chain.specs.View.{noTransaction, goodTransaction, goodBlock, beforeStruct}
 use Rattle.chain.specs.Checks.{good-block-tests, count-too-many}

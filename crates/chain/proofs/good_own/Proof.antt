@@ -2,13 +2,13 @@
 -- long and that its first i addresses ascend.
 use Prim.Native.Nat.{ℕ, _≤_, _-_, max}
 use mathlib.Core.Path.{_≡_, sym, ap, _∙_}
-use mathlib.Core.Bool.{Bool, _&&_}
+use mathlib.Core.Bool.{Bool, _&&_, and-true}
 use lib.ListN.{length, take}
 use lib.Seq.{take-length}
 use mathlib.Core.List.{List}
 use lib.Dec.{leb, ltb}
 use Rattle.sets.specs.Sets.{ascending}
-use Rattle.sets.specs.Walks.{ascending-start, and-true, ascending-more, ascending-end, guarded-step}
+use Rattle.sets.specs.Walks.{ascending-start, ascending-more, ascending-end, guarded-step}
 use Rattle.rules.specs.Chain.{shapedOwn}
 use Rattle.rules.specs.Sizes.{mostOwn}
 use borrow.Author.Needs.{needs}

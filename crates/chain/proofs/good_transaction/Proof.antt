@@ -6,7 +6,8 @@ use mathlib.Core.List.{[], _∷_}
 use lib.Dec.{leb}
 use lib.ListN.{length, take, drop}
 use Rattle.sets.specs.Sets.{all, ascending}
-use Rattle.sets.specs.Walks.{joined, joined-every, mapped-length}
+use Rattle.sets.specs.Walks.{joined, joined-every}
+use Rattle.sets.specs.Fill.{mapped-length}
 use Rattle.rules.specs.Sizes.{largestAmount, fewestInputs, mostInputs, mostOutputs}
 use Rattle.rules.specs.Chain.{beforeReference, beforeOutput}
 use Rattle.chain.specs.View.{noReference, noOutput, goodTransaction}

@@ -5,7 +5,8 @@ use mathlib.Core.List.{[], _∷_}
 use lib.Dec.{eqb}
 use lib.ListN.{length}
 use Rattle.sets.specs.Sets.{all}
-use Rattle.sets.specs.Walks.{joined, joined-every, mapped-length}
+use Rattle.sets.specs.Walks.{joined, joined-every}
+use Rattle.sets.specs.Fill.{mapped-length}
 use Rattle.rules.specs.Sizes.{mostInputs, mostOutputs}
 use Rattle.chain.specs.View.{noNumber, noReference, noOutput, noTransaction}
 use Rattle.chain.specs.Checks.{no-transaction-tests}

@@ -1,6 +1,7 @@
 -- A mark word with one state more fits a byte.
 use native.Mathlib.Omega.{arith}
-use Rattle.booking.specs.Bits.{flag-one, raised-flag}
+use mathlib.Core.Path.{refl}
+use Rattle.sets.specs.Fill.{flag-most}
 use borrow.Author.Needs.{needs}
 use Rattle.booking.proofs.marks.raise.Statement.{statement}
 use Rattle.booking.proofs.marks.raise.Tie as tie
@@ -12,10 +13,10 @@ cast-result : tie.Need-cast-result
 cast-result c = search needs
 
 add-result : tie.Need-add-result
-add-result c = record { fits = omega (arith, flag-one (c .args .present)) }
+add-result c = record { fits = omega (arith, flag-most (c .args .present)) }
 
 returns : tie.Need-returns
-returns c = raised-flag (c .args .word) (c .args .present)
+returns c = refl
 
 pub raise-spec : {M : Type 1} → statement M
 raise-spec = tie.close (tie.spec mul-result cast-result add-result returns)

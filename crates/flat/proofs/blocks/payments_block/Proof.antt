@@ -1,6 +1,6 @@
 -- The block holds the transactions of all payments in their order.
 use Prim.Native.Nat.{_≤_, _-_}
-use mathlib.Core.Path.{_≡_, ap, _∙_}
+use mathlib.Core.Path.{_≡_, refl, ap, _∙_}
 use mathlib.Core.List.{List, map}
 use lib.ListN.{length, take, replicate}
 use Rattle.chain.specs.View.{zeroTransaction}
@@ -45,7 +45,7 @@ loop-less : tie.Need-loop-less Inv-loop μ-loop
 loop-less c = search needs
 
 loop-again : tie.Need-loop-again Inv-loop μ-loop
-loop-again c = (search needs, search needs, search needs, map-turn 16 zeroTransaction (λ (p : Payment). p .transaction) _ _ _ _ (search needs) (search needs) (c .before .before .before .loop .inv .3))
+loop-again c = (search needs, search needs, search needs, map-turn 16 zeroTransaction (λ (p : Payment). p .transaction) _ _ _ _ _ (search needs) (search needs) (c .before .before .before .loop .inv .3) refl)
 
 returns : tie.Need-returns Inv-loop μ-loop
 returns c =

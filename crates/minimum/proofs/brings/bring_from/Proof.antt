@@ -2,9 +2,11 @@
 use Prim.Native.Nat.{_≤_}
 use mathlib.Core.Path.{_≡_, ap}
 use lib.ListN.{length, take, drop}
-use Rattle.sets.specs.Words.{wordOf}
+use Rattle.sets.specs.Words.{wordOf, word-start, word-turn, word-room}
+use Rattle.rules.specs.Sizes.{mostPayments}
 use Rattle.flat.specs.Slots.{pastEnd}
-use Rattle.minimum.specs.Bringing.{takesHard, takesSoft, isOwner, isMaker, pastTakings, bring-end, word-start, word-turn, word-room}
+use Rattle.minimum.specs.Bringing.{takesHard, takesSoft, isOwner, isMaker, bring-end}
+use Rattle.minimum.specs.Rows.{pastTaking}
 use Rattle.minimum.specs.declared.brings.Marks.{Marks}
 use borrow.Author.Needs.{needs}
 use Rattle.minimum.proofs.brings.bring_from.Statement.{statement}
@@ -66,25 +68,25 @@ pushed-requires : tie.Need-pushed-requires Inv-loop μ-loop
 pushed-requires c κs =
     let loop = c .before .before .before .before .before .before in
     let args = loop .before .before .before .before .args in
-    word-room (takesHard (args .entry .reference .number)) (args .t4) (args .count) (loop .loop .k) _ (loop .loop .inv .1) (loop .loop .inv .4)
+    word-room (takesHard (args .entry .reference .number)) (args .t4) (args .count) (loop .loop .k) _ mostPayments (loop .loop .inv .1) (loop .loop .inv .4)
 
 pushed-requires-2 : tie.Need-pushed-requires-2 Inv-loop μ-loop
 pushed-requires-2 c κs =
     let loop = c .before .before .before .before .before .before .before in
     let args = loop .before .before .before .before .args in
-    word-room (takesSoft (args .entry .reference .number)) (args .t4) (args .count) (loop .loop .k) _ (loop .loop .inv .1) (loop .loop .inv .5)
+    word-room (takesSoft (args .entry .reference .number)) (args .t4) (args .count) (loop .loop .k) _ mostPayments (loop .loop .inv .1) (loop .loop .inv .5)
 
 pushed-requires-3 : tie.Need-pushed-requires-3 Inv-loop μ-loop
 pushed-requires-3 c κs =
     let loop = c .before .before .before .before .before .before .before .before in
     let args = loop .before .before .before .before .args in
-    word-room (isOwner (args .entry .reference .number)) (args .t3) (args .count) (loop .loop .k) _ (loop .loop .inv .1) (loop .loop .inv .6)
+    word-room (isOwner (args .entry .reference .number)) (args .t3) (args .count) (loop .loop .k) _ mostPayments (loop .loop .inv .1) (loop .loop .inv .6)
 
 pushed-requires-4 : tie.Need-pushed-requires-4 Inv-loop μ-loop
 pushed-requires-4 c κs =
     let loop = c .before .before .before .before .before .before .before .before .before in
     let args = loop .before .before .before .before .args in
-    word-room (isMaker (args .own .now) (args .entry .reference)) (args .t3) (args .count) (loop .loop .k) _ (loop .loop .inv .1) (loop .loop .inv .7)
+    word-room (isMaker (args .own .now) (args .entry .reference)) (args .t3) (args .count) (loop .loop .k) _ mostPayments (loop .loop .inv .1) (loop .loop .inv .7)
 
 loop-less : tie.Need-loop-less Inv-loop μ-loop
 loop-less c = search needs
@@ -97,8 +99,8 @@ loop-again c =
       search needs,
       search needs,
       search needs,
-      word-turn (takesHard (args .entry .reference .number)) (args .t4) (args .count) (loop .loop .k) pastTakings _ _ _ (search needs) (search needs) (search needs) (loop .loop .inv .4) (ap (λ (m : Marks). m .hard) (c .before .before .before .before .before .before .marks-of .ensures)) (c .before .before .before .pushed .ensures),
-      word-turn (takesSoft (args .entry .reference .number)) (args .t4) (args .count) (loop .loop .k) pastTakings _ _ _ (search needs) (search needs) (search needs) (loop .loop .inv .5) (ap (λ (m : Marks). m .soft) (c .before .before .before .before .before .before .marks-of .ensures)) (c .before .before .pushed2 .ensures),
+      word-turn (takesHard (args .entry .reference .number)) (args .t4) (args .count) (loop .loop .k) pastTaking _ _ _ (search needs) (search needs) (search needs) (loop .loop .inv .4) (ap (λ (m : Marks). m .hard) (c .before .before .before .before .before .before .marks-of .ensures)) (c .before .before .before .pushed .ensures),
+      word-turn (takesSoft (args .entry .reference .number)) (args .t4) (args .count) (loop .loop .k) pastTaking _ _ _ (search needs) (search needs) (search needs) (loop .loop .inv .5) (ap (λ (m : Marks). m .soft) (c .before .before .before .before .before .before .marks-of .ensures)) (c .before .before .pushed2 .ensures),
       word-turn (isOwner (args .entry .reference .number)) (args .t3) (args .count) (loop .loop .k) pastEnd _ _ _ (search needs) (search needs) (search needs) (loop .loop .inv .6) (c .before .before .before .before .before .same-number .ensures) (c .before .pushed3 .ensures),
       word-turn (isMaker (args .own .now) (args .entry .reference)) (args .t3) (args .count) (loop .loop .k) pastEnd _ _ _ (search needs) (search needs) (search needs) (loop .loop .inv .7) (c .before .before .before .before .makes-own .ensures) (c .pushed4 .ensures),
     )

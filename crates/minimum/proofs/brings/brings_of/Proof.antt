@@ -3,8 +3,7 @@ use Prim.Native.Nat.{_≤_, _-_}
 use mathlib.Core.List.{map}
 use mathlib.Core.Path.{_≡_, ap}
 use lib.ListN.{length, take, replicate}
-use Rattle.sets.specs.Fill.{filled, mapped-length}
-use Rattle.sets.specs.Placing.{map-turn-by}
+use Rattle.sets.specs.Fill.{filled, mapped-length, map-turn}
 use Rattle.rules.specs.Sizes.{mostReferences}
 use Rattle.flat.specs.Flat.{zeroEntry}
 use Rattle.minimum.specs.Inputs.{noBring}
@@ -59,7 +58,7 @@ loop-again c =
       search needs,
       search needs,
       search needs,
-      map-turn-by mostReferences noBring (bringFrom (args .own .now) (args .pending .count) (args .pending .transactions) (args .taken)) (args .expected .entries) (loop .loop .i) zeroEntry _ _ (search needs) (loop .loop .inv .3) (loop .loop .inv .4) (c .bring-from .ensures),
+      map-turn mostReferences noBring (bringFrom (args .own .now) (args .pending .count) (args .pending .transactions) (args .taken)) (args .expected .entries) (loop .loop .i) zeroEntry _ _ (search needs) (loop .loop .inv .3) (loop .loop .inv .4) (c .bring-from .ensures),
     )
 
 returns : tie.Need-returns Inv-loop μ-loop

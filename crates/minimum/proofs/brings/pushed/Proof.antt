@@ -1,5 +1,6 @@
 -- The mark is the lowest digit.
-use Rattle.minimum.specs.Bringing.{bit-room, bit-told}
+use native.Mathlib.Omega.{arith}
+use Rattle.minimum.specs.Bringing.{bit-room}
 use borrow.Author.Needs.{needs}
 use Rattle.minimum.proofs.brings.pushed.Statement.{statement}
 use Rattle.minimum.proofs.brings.pushed.Tie as tie
@@ -14,7 +15,7 @@ add-result : tie.Need-add-result
 add-result c = bit-room _ (c .args .mark) (search needs)
 
 returns : tie.Need-returns
-returns c = bit-told _ (c .args .mark)
+returns c = omega arith
 
 pub pushed-spec : {M : Type 1} → statement M
 pushed-spec = tie.close (tie.spec mul-twice cast-low add-result returns)

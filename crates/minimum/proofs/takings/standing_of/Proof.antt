@@ -5,7 +5,7 @@ use mathlib.Core.Path.{_≡_, refl}
 use lib.ListN.{length}
 use Rattle.sets.specs.Fill.{filled, mapped-length}
 use Rattle.rules.specs.Sizes.{mostReferences}
-use Rattle.minimum.specs.Listed.{listed, listed-turn}
+use Rattle.sets.specs.Listed.{listed, listed-turn}
 use Rattle.minimum.specs.StandingLaws.{foundAt, amountFound, standing-done}
 use borrow.Author.Needs.{needs}
 use Rattle.minimum.proofs.takings.standing_of.Statement.{statement}

@@ -7,7 +7,7 @@ use Rattle.sets.specs.Fill.{filled, mapped-length}
 use Rattle.rules.specs.Sizes.{mostInputs, mostReferences}
 use Rattle.chain.specs.View.{zeroReference}
 use Rattle.minimum.specs.Inputs.{noInput}
-use Rattle.minimum.specs.Listed.{listed, listed-turn}
+use Rattle.sets.specs.Listed.{listed, listed-turn}
 use Rattle.minimum.specs.Standing.{inputFrom}
 use borrow.Author.Needs.{needs}
 use Rattle.minimum.proofs.takings.taking_of.Statement.{statement}

@@ -14,7 +14,7 @@ use Rattle.chain.specs.View.{laidOut}
 use Rattle.chain.specs.Facts.{LaidOut}
 use Rattle.flat.specs.Slots.{pastEnd}
 use Rattle.minimum.specs.Inputs.{noTaking}
-use Rattle.minimum.specs.Listed.{listed, listed-turn}
+use Rattle.sets.specs.Listed.{listed, listed-turn}
 use Rattle.minimum.specs.Standing.{takingFrom}
 use Rattle.minimum.specs.StandingLaws.{laid-one, startAt, takingAt, takings-done}
 use borrow.Author.Needs.{needs}

@@ -2,7 +2,7 @@
 use mathlib.Core.Path.{sym}
 use Rattle.pool.specs.Good.{good}
 use Rattle.wallet.specs.Answers.{back-9, back-8, back-0}
-use Rattle.wallet.specs.Found.{held, failed}
+use Rattle.wallet.specs.Flags.{held, failed}
 use borrow.Author.Tests.{not-true, not-false}
 use borrow.Author.Needs.{needs}
 use Rattle.wallet.proofs.answers.back_answer.Statement.{statement}

@@ -8,7 +8,8 @@ use Rattle.chain.specs.ViewLaws.{good-block-facts}
 use Rattle.pool.specs.Good.{good}
 use Rattle.pool.specs.LayoutLaws.{good-layout}
 use Rattle.wallet.specs.Answers.{unspentMade, outputsAgree, paymentsAgree, block-9, block-1, block-5, block-6, block-0}
-use Rattle.wallet.specs.Found.{outputs-found, outputs-told, held, failed}
+use Rattle.wallet.specs.Found.{outputs-found, outputs-told}
+use Rattle.wallet.specs.Flags.{held, failed}
 use borrow.Author.Tests.{not-true, not-false}
 use borrow.Author.Needs.{needs}
 use Rattle.wallet.proofs.answers.block_answer.Statement.{statement}

@@ -3,14 +3,16 @@ use mathlib.Core.Path.{_≡_, sym, _∙_}
 use mathlib.Core.Bool.{Bool, false, not, _||_}
 use native.Mathlib.Omega.{arith}
 use lib.Dec.{T}
-use Rattle.chain.specs.Facts.{laid-out-facts, shaped-facts}
+use Rattle.rules.specs.ShapeLaws.{shaped-facts}
+use Rattle.chain.specs.Facts.{laid-out-facts}
 use Rattle.chain.specs.View.{goodTransaction, viewTransaction}
 use Rattle.chain.specs.ViewLaws.{good-facts}
 use Rattle.chain.specs.declared.Transaction.{Transaction}
 use Rattle.pool.specs.Good.{good}
 use Rattle.pool.specs.declared.Pool.{Pool}
 use Rattle.wallet.specs.Answers.{numberUsed, inputsFree, paidIn, paidOut, pay-9, pay-1, pay-2, pay-3, pay-4, pay-7, pay-0}
-use Rattle.wallet.specs.Found.{inputs-found, inputs-worth, held, failed}
+use Rattle.wallet.specs.Found.{inputs-found, inputs-worth}
+use Rattle.wallet.specs.Flags.{held, failed}
 use borrow.Author.Tests.{not-true, not-false}
 use borrow.Author.Needs.{needs}
 use Rattle.wallet.proofs.answers.pay_answer.Statement.{statement}

@@ -3,15 +3,18 @@ use Prim.Native.Nat.{ℕ, zero, suc, _+_, _≤_, _<_}
 use mathlib.Core.Path.{_≡_, refl, sym, ap, _∙_}
 use mathlib.Core.Logic.{⊎-elim}
 use mathlib.Core.Bool.{true, not}
-use mathlib.Core.List.{List, [], _∷_, _++_, map}
+use mathlib.Core.List.{List, [], _∷_, _++_, map, map-id}
+use native.Mathlib.Decide.{le-ind}
 use native.Mathlib.Nat.{not-suc-le-zero}
 use native.Mathlib.Numerals.{add-one}
 use native.Mathlib.Omega.{arith}
 use lib.Dec.{T, ltb, ltb→lt, nltb→le}
 use lib.ListN.{length, getD, take, set, length-append, List·getD-append}
 use lib.Seq.{getD-at}
+use Rattle.sets.specs.Sets.{total}
 use Rattle.sets.specs.Tests.{T-cases}
+use Rattle.sets.specs.Laws.{total-append}
 use Rattle.sets.specs.Fill.{filled, map-more, turn-filled}
 
 module _ {A : Type 0} where
   -- what stands at the first n places
@@ -45,6 +48,16 @@ module _ {A : Type 0} where
       let more : listed f (i + 1) ≡ listed f i ++ f i ∷ [] = rw add-one refl in
       turn-filled n z (listed f i) (listed f (i + 1)) a i true (f i) v h at e g more
 
+  pub total-listed : (g : A → ℕ) (f : ℕ → A) (n : ℕ) → total g (listed f (suc n)) ≡ total g (listed f n) + g (f n)
+  total-listed g f n = omega (arith, total-append g (listed f n) (f n ∷ []))
+
+  -- more values sum to no less
+  pub total-listed-more : (g : A → ℕ) (f : ℕ → A) (i n : ℕ) → i ≤ n → total g (listed f i) ≤ total g (listed f n)
+  total-listed-more g f i n h =
+      le-ind (λ (k : ℕ). total g (listed f i) ≤ total g (listed f k)) (omega arith)
+      (λ (k : ℕ) (a : i ≤ k) (r : total g (listed f i) ≤ total g (listed f k)). omega (arith, total-listed g f k))
+      n h
+
 module _ {A B : Type 0} where
   -- where each place has what a member of a list gives, the whole is the list so mapped
   pub listed-map :
@@ -55,3 +68,8 @@ module _ {A B : Type 0} where
       let so-far : listed g n ≡ map f (take n l) = listed-map g f l d n (omega arith) (λ i k. same i (omega arith)) in
       let here : g n ≡ f (getD l n d) = same n (omega arith) in
       (λ t. so-far t ++ here t ∷ []) ∙ sym (map-more f l n d h) ∙ ap (λ (k : ℕ). map f (take k l)) (add-one n)
+
+module _ {A : Type 0} where
+  -- a list is its places listed
+  pub listed-take : (f : ℕ → A) (l : List A) (d : A) (n : ℕ) → n ≤ length l → ((i : ℕ) → i < n → f i ≡ getD l i d) → listed f n ≡ take n l
+  listed-take f l d n h same = listed-map f (λ (x : A). x) l d n h same ∙ map-id (take n l)
