@@ -1,33 +1,27 @@
 -- The balances of a sound wallet struct as sums over the lists that the code lays flat: the available list and the change
--- come to the available and the total balance, and both sums and their total fit 64 bits.
-use Prim.Native.Nat.{_+_, _*_, _^_, _≤_, _<_}
+-- come to the available and the total balance.
+use Prim.Native.Nat.{_+_, _*_, _≤_}
 use mathlib.Core.Path.{_≡_, refl, ap}
 use mathlib.Core.Bool.{true, false, not, cond}
 use mathlib.Core.List.{List, _++_, List·Memᴰ, List·Memᴰ·head, Memᴰ·append-left}
 use native.Mathlib.Omega.{arith}
 use lib.Dec.{T, leb, leb→le, le→leb}
-use lib.ListN.{length, take, length-map, length-take}
+use lib.ListN.{length, take}
 use Rattle.sets.specs.Sets.{all, has, keep, total}
 use Rattle.sets.specs.Tests.{cond-true}
-use Rattle.sets.specs.Laws.{all-intro, all-elim, keep-from, keep-length, total-bound, map-elim, gather-intro, gather-elim}
-use Rattle.sets.specs.Count.{gather-length}
+use Rattle.sets.specs.Laws.{all-intro, all-elim, keep-from, total-bound, map-elim, gather-intro, gather-elim}
 use Rattle.rules.specs.declared.Entry.{Entry}
 use Rattle.rules.specs.declared.Output.{Output}
-use Rattle.rules.specs.Sizes.{largestAmount, mostOutputs, mostPayments, mostReferences}
+use Rattle.rules.specs.Sizes.{largestAmount}
 use Rattle.rules.specs.Chain as Chain
 use Rattle.rules.specs.Chain.{sameReference, entryOf, makes, made, spent, worth, shapedTransaction}
 use Rattle.rules.specs.ShapeLaws.{shaped-facts}
 use Rattle.rules.specs.States.{State, states}
 use Rattle.rules.specs.Balances.{available, availableBalance, totalBalance}
-use Rattle.chain.specs.View.{viewTransaction}
-use Rattle.pool.specs.declared.Held.{Held}
-use Rattle.pool.specs.declared.Payment.{Payment}
 use Rattle.pool.specs.declared.Pool.{Pool}
-use Rattle.pool.specs.Marks.{marked}
 use Rattle.pool.specs.View.{entriesOf, paymentsOf, pendingAt, view}
 use Rattle.pool.specs.Good.{good}
-use Rattle.pool.specs.LayoutLaws.{good-layout, good-sound}
-use Rattle.pool.specs.RefusalLaws.{isAvailable, available-places}
+use Rattle.pool.specs.LayoutLaws.{good-sound}
 use Rattle.pool.specs.BalanceLaws.{isChange, total-pool}
 use Rattle.flat.specs.Flat.{madeIn, madeOf}
 use Rattle.flat.specs.Told.{made-back}
@@ -102,51 +96,3 @@ module _ (w : Pool) (t : T (good w)) where
         available-worth,
         within-worth (changeOf w) change-within,
       )
-
-  -- ── how large they can be
-
-  few-available : length (available (view w .present)) ≤ mostReferences
-  few-available =
-      omega (
-        arith,
-        ap length (available-places w),
-        length-map (keep (isAvailable (paymentsOf w)) (entriesOf w)) (λ (h : Held). h .entry),
-        keep-length (isAvailable (paymentsOf w)) (entriesOf w),
-        length-take (w .used) (w .entries),
-        good-layout w t .few-entries,
-      )
-
-  few-pending : length (pendingAt 0 (paymentsOf w)) ≤ mostPayments
-  few-pending =
-      omega (
-        arith,
-        length-map (keep (λ p. marked 0 (p .pending)) (paymentsOf w)) (λ (p : Payment). viewTransaction (p .transaction)),
-        keep-length (λ (p : Payment). marked 0 (p .pending)) (paymentsOf w),
-        length-take (w .paying) (w .payments),
-        good-layout w t .few-payments,
-      )
-
-  few-change : length (changeOf w) ≤ mostPayments * mostOutputs
-  few-change =
-      omega (
-        arith,
-        keep-length (isChange (take (w .owns) (w .own)) (entriesOf w) (paymentsOf w)) (made (pendingAt 0 (paymentsOf w))),
-        few-pending,
-        gather-length makes mostOutputs (pendingAt 0 (paymentsOf w))
-            (λ p m. omega (arith, length-map (p .outputs) (entryOf (p .number)), shaped-facts p (pending-shaped p m) .outputsFit)),
-      )
-
-  -- the available balance
-  pub available-most : worthWithin (available (view w .present)) ≤ mostReferences * largestAmount
-  available-most = omega (arith, worth-most (available (view w .present)), few-available)
-
-  -- the worth of the change
-  pub change-most : worthWithin (changeOf w) ≤ mostPayments * mostOutputs * largestAmount
-  change-most = omega (arith, worth-most (changeOf w), few-change)
-
-  -- both sums and their total fit 64 bits
-  pub sums-fit :
-      (worthWithin (available (view w .present)) < 2 ^ 64)
-      × (worthWithin (changeOf w) < 2 ^ 64)
-      × (worthWithin (changeOf w) + worthWithin (available (view w .present)) < 2 ^ 64)
-  sums-fit = (omega (arith, available-most), omega (arith, change-most), omega (arith, available-most, change-most))
