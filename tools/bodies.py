@@ -76,7 +76,7 @@ def stored():
     yield 2, 0, block()
     yield 3, 0, plain + plain
     yield 4, 0, b''
-    # bytes in another order than little endian break a rule
+    # numbers in big endian order are read too, as other numbers
     yield 3, 0, struct.pack('>QBB', 5, 1, 0) + struct.pack('>QH', 1, 0)
 
 

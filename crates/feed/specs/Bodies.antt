@@ -92,3 +92,17 @@ answerNumber (Fault place) = 1
 abbrev pub answerPlace : Answer → ℕ
 answerPlace (Read next) = 0
 answerPlace (Fault place) = place
+
+abbrev pub bodyNumber : Body → ℕ
+bodyNumber Is.Own = 0
+bodyNumber Is.Block = 0
+bodyNumber Is.Payment = 0
+bodyNumber Is.Rollback = 0
+bodyNumber (Is.Fault place) = 1
+
+abbrev pub bodyFault : Body → ℕ
+bodyFault Is.Own = 0
+bodyFault Is.Block = 0
+bodyFault Is.Payment = 0
+bodyFault Is.Rollback = 0
+bodyFault (Is.Fault place) = place

@@ -1,20 +1,31 @@
--- What the public promises come to: what `read_body` hands back is good, and any two results of the row function are
--- equal.
+-- What the public promises come to: the paper's number and place for each answer, what `read_body` hands back is good, a
+-- feed that was checked once is read by numbers, and any two results of the row function are equal.
 use mathlib.Core.Path.{_≡_, refl, sym, ap, subst, _∙_}
+use mathlib.Core.Bool.{Bool, true}
 use mathlib.Core.List.{List}
-use Prim.Native.Nat.{ℕ}
+use Prim.Native.Nat.{ℕ, _≤_}
 use native.Mathlib.Omega.{arith}
+use lib.Dec.{T}
 use Rattle.chain.specs.declared.Block.{Block}
 use Rattle.format.specs.Bodies as Format
-use Rattle.format.specs.Bodies.{ownBody, blockBody, payBody, backBody, faultAt, readBody}
-use Rattle.format.specs.Feed.{rowBody}
-use Rattle.feed.specs.Bodies.{bodyRead}
+use Rattle.format.specs.Bodies.{ownBody, blockBody, payBody, backBody, faultAt, readBody, bodyAnswer, bodyPlace}
+use Rattle.format.specs.Feed.{countIn, kindIn, bodyIn, wellFormed, rowKind, rowBody}
+use Rattle.format.specs.Rows.{row-found, is-row}
+use Rattle.feed.specs.Bodies.{bodyRead, bodyNumber, bodyFault}
 use Rattle.feed.specs.Rows.{rowFound}
 use Rattle.feed.specs.Good.{OwnGood, BlockGood, PaymentGood, own-held, block-held, payment-held}
 use Rattle.feed.specs.declared.bodies.Own.{Own}
 use Rattle.feed.specs.declared.bodies.Body.{Body}
 use Rattle.feed.specs.declared.bodies.Body.the-variants as Is
 use Rattle.feed.specs.declared.bodies.BodyRead.{BodyRead}
+
+-- The answer of `read_body`, as the paper's number and place.
+pub body-told : (b : Format.Body) → (bodyNumber (bodyRead b .body) ≡ bodyAnswer b) × (bodyFault (bodyRead b .body) ≡ bodyPlace b)
+body-told (ownBody own) = (refl, refl)
+body-told (blockBody b) = (refl, refl)
+body-told (payBody t) = (refl, refl)
+body-told backBody = (refl, refl)
+body-told (faultAt place) = (refl, refl)
 
 -- ── what `read_body` hands back
 
@@ -69,6 +80,11 @@ module _ (kind : ℕ) (bytes : List ℕ) where
       (own-case (readBody kind bytes) refl, block-case (readBody kind bytes) refl, payment-case (readBody kind bytes) refl)
 
 -- ── rows
+
+-- A feed that was checked once: what stands in its table is what a caller of `kind` and `row` gets.
+pub checked-row : (feed : List ℕ) (b : Bool) (n : ℕ) → b ≡ wellFormed feed → b ≡ true → 1 ≤ n → n ≤ countIn feed →
+    (rowFound feed n ≡ 1) × (rowKind feed n ≡ kindIn feed n) × (rowBody feed n ≡ bodyIn feed n)
+checked-row feed b n e f g h = row-found feed n (is-row feed n (subst T (sym f ∙ e) tt) g h)
 
 -- What `row` promises of the part and of the lent number.
 pub record RowPromise (feed : List ℕ) (n : ℕ) (part : List ℕ) (lent : ℕ) : Type 0 where

@@ -85,6 +85,24 @@ own-told bytes =
     moved bytes (readBody ownKind bytes) (ownReading (length bytes) (readBody ownKind bytes)) (exactly (length bytes) (readOwn bytes 0)) (own-exact bytes)
     (told ownBody bytes (λ (x : List ℕ). (refl, refl)) (readOwn bytes 0))
 
+-- The answer of `read_block`.
+pub block-told : (bytes : List ℕ) →
+    (answerNumber (answered (blockReading (length bytes) (readBody blockKind bytes))) ≡ bodyAnswer (readBody blockKind bytes))
+    × (answerPlace (answered (blockReading (length bytes) (readBody blockKind bytes))) ≡ bodyPlace (readBody blockKind bytes))
+unfolding readBody
+block-told bytes =
+    moved bytes (readBody blockKind bytes) (blockReading (length bytes) (readBody blockKind bytes)) (exactly (length bytes) (readBlock bytes 0)) (block-exact bytes)
+    (told blockBody bytes (λ (x : Chain.Block). (refl, refl)) (readBlock bytes 0))
+
+-- The answer of `read_payment`.
+pub pay-told : (bytes : List ℕ) →
+    (answerNumber (answered (payReading (length bytes) (readBody payKind bytes))) ≡ bodyAnswer (readBody payKind bytes))
+    × (answerPlace (answered (payReading (length bytes) (readBody payKind bytes))) ≡ bodyPlace (readBody payKind bytes))
+unfolding readBody readPayment
+pay-told bytes =
+    moved bytes (readBody payKind bytes) (payReading (length bytes) (readBody payKind bytes)) (exactly (length bytes) (readTransaction none bytes 0)) (pay-exact bytes)
+    (told payBody bytes (λ (x : Chain.Transaction). (refl, refl)) (readTransaction none bytes 0))
+
 -- ── a count, then so many items
 
 module _ {A : Type 0} (most : ℕ) (item : Option A → Reader A) where

@@ -1,19 +1,22 @@
 -- What the contracts leave open: nothing. Two results that a contract allows are equal, a refused step hands back the
 -- very wallet that came in, a sound wallet stays sound, and a movement has its range.
-use Prim.Native.Nat.{ℕ}
+use Prim.Native.Nat.{ℕ, _*_, _≤_}
+use native.Mathlib.Omega.{arith}
 use mathlib.Core.Path.{_≡_, sym, ap, subst, _∙_}
 use mathlib.Core.Logic.{⊎-elim}
 use mathlib.Core.Bool.{Bool, not}
 use mathlib.Core.List.{List, map, map-map}
 use lib.Dec.{T}
-use lib.IntN.{pos}
+use lib.IntN.{ℤ, pos, natAbs}
 use Rattle.sets.specs.Tests.{T-cases}
 use Rattle.sets.specs.Sets.{keep}
+use Rattle.rules.specs.Sizes.{largestAmount, mostReferences}
 use Rattle.rules.specs.States as States
 use Rattle.rules.specs.Steps as Steps
 use Rattle.rules.specs.Sound.{sound}
 use Rattle.rules.specs.Calls.{Call, step}
 use Rattle.soundness.specs.Refused.{refused-unchanged}
+use Rattle.soundness.specs.Bounds.{movement-bound}
 use Rattle.soundness.specs.Kept.{opening-sound, step-sound}
 use Rattle.chain.specs.View.{viewTransaction}
 use Rattle.pool.specs.declared.Payment.{Payment}
@@ -110,6 +113,27 @@ stepped-sound {w} {laid} {r} c a g =
     (λ (t : T (not laid)).
     subst (λ (v : Wallet). T (isSound v)) (sym (refused-same w r 1 (a .broken g t) .0)) g)
     (T-cases laid)
+
+-- ── how far
+
+unmoved : (r : Step) → r .movement ≡ pos 0 → natAbs (r .movement) ≤ mostReferences * largestAmount
+unmoved r e = subst (λ (z : ℤ). natAbs z ≤ mostReferences * largestAmount) (sym e) (omega arith)
+
+-- the movement of a block, payment or rollback lies between minus and plus the largest available balance
+pub stepped-movement :
+    {w : Wallet} {laid : Bool} {r : Step} (c : Call) → Stepped w laid (step (viewed w) c) r →
+    natAbs (r .movement) ≤ mostReferences * largestAmount
+stepped-movement {w} {laid} {r} c a =
+    ⊎-elim
+    (λ (g : T (isSound w)).
+    ⊎-elim
+    (λ (t : T laid).
+    subst (λ (z : ℤ). natAbs z ≤ mostReferences * largestAmount) (sym (a .booked g t .movement))
+    (movement-bound (viewed w) c (good-view (w .pool) g)))
+    (λ (t : T (not laid)). unmoved r (refused-same w r 1 (a .broken g t) .1))
+    (T-cases laid))
+    (λ (g : T (not (isSound w))). unmoved r (refused-same w r 9 (a .unsound g) .1))
+    (T-cases (isSound w))
 
 -- ── what is pending
 
