@@ -8,7 +8,7 @@ use native.Mathlib.Omega.{arith}
 use lib.Dec.{T, leb, leb→le}
 use lib.ListN.{length, getD, take}
 use Rattle.sets.specs.Sets.{all, total}
-use Rattle.sets.specs.Tests.{T-cases, cond-true, cond-false}
+use Rattle.sets.specs.Tests.{T-cases, cond-true, cond-false, either-way}
 use Rattle.sets.specs.Walks.{all-step, total-more}
 use Rattle.sets.specs.Laws.{all-elim, keep-all}
 use Rattle.sets.specs.Sums.{total-kept}
@@ -29,10 +29,7 @@ counted e = cond (within e) (e .amount) 0
 -- no entry counts more than the limit
 pub counted-most : (e : Entry) → counted e ≤ largestAmount
 counted-most e =
-    ⊎-elim
-    (λ (t : T (within e)). omega (arith, cond-true (within e) (e .amount) 0 t, leb→le (e .amount) largestAmount t))
-    (λ (t : T (not (within e))). omega (arith, cond-false (within e) (e .amount) 0 t))
-    (T-cases (within e))
+    either-way (λ n. n ≤ largestAmount) (within e) (e .amount) 0 (λ t. leb→le (e .amount) largestAmount t) (λ t. omega arith)
 
 -- Before a turn: the sum of what the first i of end entries count, and whether all their amounts are within the limit.
 abbrev pub Summing : List Entry → ℕ → ℕ → Bool → ℕ → Type 0

@@ -17,7 +17,7 @@ use Rattle.rules.specs.Chain.{beforeReference, beforeOutput, beforeTransaction,
 use Rattle.rules.specs.ShapeLaws.{shaped-facts, shaped, shaped-block-facts, shaped-block}
 use Rattle.chain.specs.View.{noNumber, noReference, noOutput, viewTransaction, viewBlock, laidOut, noTransaction, laidOutBlock, goodTransaction, goodBlock, beforeStruct}
 use Rattle.sets.specs.Tests.{equal-holds}
-use Rattle.chain.specs.Facts.{laid-out-facts, laid-out, unused-facts, unused, laid-out-block-facts, laid-out-block}
+use Rattle.chain.specs.Facts.{laid-out-facts, laid-out, unused-facts, unused, laid-out-block-facts, laid-out-block, LaidOut}
 use Rattle.chain.specs.declared.Transaction.{Transaction}
 use Rattle.chain.specs.declared.Block.{Block}
 
@@ -66,24 +66,19 @@ good-transaction-tests t li lo ht hm =
     makes : length (take (t .makes) (t .outputs)) ≡ t .makes
     makes = length-take-le (t .makes) (t .outputs) (omega arith)
 
--- a transaction whose counts do not fit is not good
-pub takes-too-many : (t : Transaction) → mostInputs < t .takes → goodTransaction t ≡ false
+-- a transaction that is not laid out is not good, so not one whose counts do not fit
+not-good : (t : Transaction) → (LaidOut t → ⊥) → goodTransaction t ≡ false
 unfolding goodTransaction
-takes-too-many t h =
+not-good t never =
     is-false (goodTransaction t)
     (not-T (goodTransaction t)
-    (λ (g : T (goodTransaction t)).
-    let l = laid-out-facts t (and-left (laidOut t) (shapedTransaction (viewTransaction t)) g) in
-    omega (arith, l .takesFit)))
+    (λ (g : T (goodTransaction t)). never (laid-out-facts t (and-left (laidOut t) (shapedTransaction (viewTransaction t)) g))))
+
+pub takes-too-many : (t : Transaction) → mostInputs < t .takes → goodTransaction t ≡ false
+takes-too-many t h = not-good t (λ l. omega (arith, l .takesFit))
 
 pub makes-too-many : (t : Transaction) → mostOutputs < t .makes → goodTransaction t ≡ false
-unfolding goodTransaction
-makes-too-many t h =
-    is-false (goodTransaction t)
-    (not-T (goodTransaction t)
-    (λ (g : T (goodTransaction t)).
-    let l = laid-out-facts t (and-left (laidOut t) (shapedTransaction (viewTransaction t)) g) in
-    omega (arith, l .makesFit)))
+makes-too-many t h = not-good t (λ l. omega (arith, l .makesFit))
 
 -- ── a place with no transaction
 

@@ -1,15 +1,16 @@
 -- Lists laid flat are read back as they were, and what a search of the references of one list in another tells of each:
 -- whether it is there.
 use Prim.Native.Nat.{ℕ, _<_, min}
-use mathlib.Core.Path.{_≡_, refl, ap, _∙_}
-use mathlib.Core.Bool.{Bool, _||_}
-use mathlib.Core.List.{List, [], _∷_, map}
+use mathlib.Core.Path.{_≡_, ap, _∙_, sym}
+use mathlib.Core.Bool.{Bool}
+use mathlib.Core.List.{List, map}
 use native.Mathlib.Omega.{arith}
 use lib.Dec.{ltb}
 use lib.ListN.{length, getD, take, length-map, length-take, List·getD-map}
 use lib.Seq.{getD-take}
 use Rattle.sets.specs.Sets.{has}
 use Rattle.sets.specs.Fill.{filled, filled-first, filled-at}
+use Rattle.sets.specs.Maps.{any-map}
 use Rattle.rules.specs.declared.Reference.{Reference}
 use Rattle.rules.specs.declared.Entry.{Entry}
 use Rattle.rules.specs.Sizes.{mostReferences, mostTransactions}
@@ -41,13 +42,11 @@ refs-count r n h e = omega (arith, length-take (r .count) (r .refs))
 
 -- an entry is in a list exactly where its reference is among the list's
 pub has-entry : (e : Entry) (l : List Entry) → has sameEntry e l ≡ has sameReference (e .reference) (map (λ x. x .reference) l)
-has-entry e [] = refl
-has-entry e (x ∷ l) = ap (λ (b : Bool). sameEntry e x || b) (has-entry e l)
+has-entry e l = sym (any-map (sameReference (e .reference)) (λ x. x .reference) l)
 
 -- and so of a list of entries with their marks
 pub has-held : (e : Entry) (l : List Held) → has sameEntry e (map (λ h. h .entry) l) ≡ has sameReference (e .reference) (map (λ h. h .entry .reference) l)
-has-held e [] = refl
-has-held e (x ∷ l) = ap (λ (b : Bool). sameEntry e (x .entry) || b) (has-held e l)
+has-held e l = any-map (sameEntry e) (λ h. h .entry) l ∙ sym (any-map (sameReference (e .reference)) (λ h. h .entry .reference) l)
 
 -- for each of the first places of an array, a flag tells a test of what stands there
 abbrev pub Tells : {A : Type 0} → (A → Bool) → List A → A → List ℕ → ℕ → ℕ → Type 0

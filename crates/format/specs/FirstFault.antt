@@ -7,10 +7,10 @@ use mathlib.Core.List.{List, [], _∷_}
 use mathlib.Core.Option.{Option, none, some}
 use Prim.Native.Nat.{ℕ, zero, suc, _+_, _≤_}
 use native.Mathlib.Omega.{arith}
-use lib.Dec.{T, T-not, not-T, eqb, eqb-refl, leb, ltb, leb→le, le→leb, eqb→eq, lit≤}
+use lib.Dec.{T, eqb, leb, ltb, leb→le, le→leb, lit≤}
 use lib.ListN.{length, take}
 use Rattle.sets.specs.Bytes.{agree-fewer, agree-part, agree-length}
-use Rattle.sets.specs.Tests.{same-test, T-cases, cond-true, cond-false}
+use Rattle.sets.specs.Tests.{same-test, T-cases, cond-true, cond-false, neqb→ne, ne→neqb}
 use Rattle.rules.specs.declared.Reference.{Reference}
 use Rattle.rules.specs.declared.Output.{Output}
 use Rattle.rules.specs.Sizes.{largestAmount, mostOwn, fewestInputs, mostInputs, mostOutputs, mostTransactions}
@@ -245,12 +245,8 @@ module _ {A : Type 0} (body : A → Body) (sound : (Q : ℕ → Type 0) (x : A) 
       -- a byte left over is left over in any bytes that agree past it
       still : (next : ℕ) (other : List ℕ) → next ≤ length bytes → T (not (eqb next (length bytes))) → take (next + widest) other ≡ take (next + widest) bytes → T (not (eqb next (length other)))
       still next other l t e =
-          not-T (eqb next (length other))
-          (λ (u : T (eqb next (length other))).
-          T-not (eqb next (length bytes)) t
-          (subst (λ (k : ℕ). T (eqb next k))
-          (omega (arith, eqb→eq next (length other) u, agree-length (next + widest) other bytes e))
-          (eqb-refl next)))
+          ne→neqb next (length other)
+          (λ (u : next ≡ length other). neqb→ne next (length bytes) t (omega (arith, agree-length (next + widest) other bytes e)))
 
       used : (m : Reading A) → Outcome (ReadAlike r bytes 0) (FaultAlike r bytes 0) m → Faulty (First (whole body r) bytes) (usedUp body bytes m)
       used (got x next) c =

@@ -7,11 +7,11 @@ use mathlib.Core.List.{List, [], _∷_, _++_, append-nil, append-assoc}
 use mathlib.Core.Option.{Option, none, some}
 use Prim.Native.Nat.{ℕ, _+_, _^_, _≤_, _<_}
 use native.Mathlib.Omega.{arith}
-use lib.Dec.{T, not-T, eqb, leb, ltb, eqb-refl, ltb→lt, lt→ltb, leb→le, le→leb, lit≤}
+use lib.Dec.{T, not-T, eqb, leb, ltb, ltb→lt, lt→ltb, leb→le, le→leb, lit≤}
 use lib.ListN.{length, take, drop, length-drop, length-append}
 use lib.Seq.{drop-drop, take-at, drop-at}
 use Rattle.sets.specs.Sets.{every, all, ascending, gather}
-use Rattle.sets.specs.Tests.{and-left, and-right, and-both, or-left, or-right, every-at, cond-true}
+use Rattle.sets.specs.Tests.{and-left, and-right, and-both, or-left, or-right, every-at, cond-true, equal-holds}
 use Rattle.sets.specs.Laws.{all-intro, all-elim}
 use Rattle.rules.specs.declared.Number.{Number}
 use Rattle.rules.specs.declared.Reference.{Reference}
@@ -250,7 +250,7 @@ module _ {A : Type 0} where
       in
       ap (λ (m : Reading A). usedUp body written m) (c .1)
       ∙ cond-true (eqb (c .0) (length written)) (body x) (faultAt (c .0))
-      (subst (λ (k : ℕ). T (eqb (c .0) k)) end (eqb-refl (c .0)))
+      (equal-holds (c .0) (length written) end)
 
 -- ── the laws
 

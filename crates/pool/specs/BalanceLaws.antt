@@ -6,19 +6,17 @@ use mathlib.Core.Bool.{Bool, not, _&&_}
 use mathlib.Core.List.{List, _++_, List·Memᴰ·head}
 use lib.Dec.{T}
 use Rattle.sets.specs.Sets.{any, has, keep, ascending, once}
-use Rattle.sets.specs.Tests.{same-test}
 use Rattle.sets.specs.Laws.{keep-same, keep-keep, total-append}
 use Rattle.sets.specs.Order.{ascending-keep, ascending-once}
 use Rattle.sets.specs.Once.{once-append}
-use Rattle.sets.specs.Maps.{any-map, any-keep, any-same}
+use Rattle.sets.specs.Maps.{any-map, any-keep}
 use Rattle.sets.specs.Picks.{pick-ascending}
 use Rattle.rules.specs.declared.Entry.{Entry}
 use Rattle.rules.specs.Chain as Chain
 use Rattle.rules.specs.Chain.{sameReference, sameEntry, beforeEntry, made, spent, worth, isOwn}
-use Rattle.rules.specs.ChainLaws.{sameReference-sym}
 use Rattle.rules.specs.States.{State, ownMade}
 use Rattle.rules.specs.Balances.{available, change, availableBalance, totalBalance}
-use Rattle.soundness.specs.Orders.{beforeEntry-irrefl, beforeEntry-trans, beforeEntry-never}
+use Rattle.soundness.specs.Orders.{beforeEntry-irrefl, beforeEntry-trans, beforeEntry-never, sameEntry-turned}
 use Rattle.soundness.specs.Facts.{held-pending}
 use Rattle.pool.specs.declared.Held.{Held}
 use Rattle.pool.specs.declared.Payment.{Payment}
@@ -76,11 +74,7 @@ change-new own w =
         ap (any (λ f. sameEntry f e)) (available-places w)
         ∙ any-map (λ f. sameEntry f e) (λ h. h .entry) (keep (isAvailable (paymentsOf w)) (entriesOf w))
         ∙ any-keep (λ h. sameEntry (h .entry) e) (isAvailable (paymentsOf w)) (entriesOf w)
-        ∙ any-same (λ h. sameEntry (h .entry) e && isAvailable (paymentsOf w) h) (λ h. sameReference (e .reference) (h .entry .reference) && isAvailable (paymentsOf w) h) (entriesOf w)
-        (λ h m.
-        ap (λ (b : Bool). b && isAvailable (paymentsOf w) h)
-        (same-test (sameEntry (h .entry) e) (sameReference (e .reference) (h .entry .reference))
-        (sameReference-sym (h .entry .reference) (e .reference)) (sameReference-sym (e .reference) (h .entry .reference))))
+        ∙ (λ t. any (λ h. sameEntry-turned (h .entry) e t && isAvailable (paymentsOf w) h) (entriesOf w))
 
 -- the total balance is the available balance and the sum of the change
 pub total-pool :

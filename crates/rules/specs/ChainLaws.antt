@@ -8,7 +8,7 @@ use native.Mathlib.Omega.{arith}
 use lib.Dec.{T, T-not, eqb, ltb, eqb→eq, eqb-refl, ltb→lt, nltb→le, lt→ltb}
 use Rattle.sets.specs.Sets.{sameList}
 use Rattle.sets.specs.Laws.{sameList-refl, sameList-eq}
-use Rattle.sets.specs.Tests.{or-left, or-right, or-cases, and-left, and-right, and-both, T-cases}
+use Rattle.sets.specs.Tests.{or-left, or-right, or-cases, and-left, and-right, and-both, T-cases, equal-holds}
 use Rattle.rules.specs.declared.Number.{Number}
 use Rattle.rules.specs.declared.Reference.{Reference}
 use Rattle.rules.specs.declared.Output.{Output}
@@ -37,9 +37,11 @@ beforeNumber-trans a b c s t =
 pub beforeNumber-total : (a b : Number) → T (not (beforeNumber a b)) → T (not (beforeNumber b a)) → T (sameNumber a b)
 unfolding sameNumber beforeNumber
 beforeNumber-total a b s t =
-    subst (λ (n : ℕ). T (eqb (a .serial) n))
-    (omega (arith, nltb→le (a .serial) (b .serial) s, nltb→le (b .serial) (a .serial) t))
-    (eqb-refl (a .serial))
+    equal-holds (a .serial) (b .serial) (omega (arith, nltb→le (a .serial) (b .serial) s, nltb→le (b .serial) (a .serial) t))
+
+-- equal numbers are the same
+pub sameNumber-of : {a b : Number} → a ≡ b → T (sameNumber a b)
+sameNumber-of {a} e = subst (λ (n : Number). T (sameNumber a n)) e (sameNumber-refl a)
 
 -- ── references
 
@@ -76,7 +78,7 @@ pub beforeReference-index : (a b : Reference) → a .number ≡ b .number → a 
 beforeReference-index a b e h =
     or-right (beforeNumber (a .number) (b .number)) (sameNumber (a .number) (b .number) && ltb (a .index) (b .index))
     (and-both (sameNumber (a .number) (b .number)) (ltb (a .index) (b .index))
-    (subst (λ (n : Number). T (sameNumber (a .number) n)) e (sameNumber-refl (a .number)))
+    (sameNumber-of e)
     (lt→ltb (a .index) (b .index) h))
 
 pub beforeReference-irrefl : (a : Reference) → T (beforeReference a a) → ⊥

@@ -41,14 +41,10 @@ module _ {A : Type 0} where
   pub filled-first : (n : ℕ) (z : A) (l : List A) → take (length l) (l ++ replicate (n - length l) z) ≡ l
   filled-first n z l = take-append-seam l (replicate (n - length l) z)
 
-  -- and the one value behind it
-  pub filled-behind : (n : ℕ) (z : A) (l : List A) → drop (length l) (filled n z l) ≡ replicate (n - length l) z
-  filled-behind n z l = drop-append-seam l (replicate (n - length l) z)
-
   -- what holds of the one value holds of all places behind the list
   pub filled-rest : (p : A → Bool) (n : ℕ) (z : A) (l : List A) → T (p z) → T (all p (drop (length l) (l ++ replicate (n - length l) z)))
   filled-rest p n z l t =
-      subst (λ (r : List A). T (all p r)) (sym (filled-behind n z l)) (all-replicate p z (n - length l) t)
+      subst (λ (r : List A). T (all p r)) (sym (drop-append-seam l (replicate (n - length l) z))) (all-replicate p z (n - length l) t)
 
   -- an array with nothing behind its first places is those, and z behind
   pub places-filled :

@@ -102,6 +102,11 @@ module _ {A : Type 0} where
   cond-false true x y t = absurd t
   cond-false false x y t = refl
 
+-- what holds of both outcomes of a test holds of the one that is taken
+pub either-way : {A : Type 0} (P : A → Type 0) (b : Bool) (x y : A) → (T b → P x) → (T (not b) → P y) → P (cond b x y)
+either-way P true x y f g = f tt
+either-way P false x y f g = g tt
+
 -- the i-th of a list of tests that all hold (past the end there is nothing to hold)
 pub every-at : (l : List Bool) (i : ℕ) → T (every l) → T (getD l i true)
 every-at [] i t = tt

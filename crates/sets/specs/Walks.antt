@@ -13,7 +13,7 @@ use lib.ListN.{length, getD, take, drop, replicate, drop-of-length-le, length-dr
 use lib.Seq.{take-suc, take-all, drop-cons, getD-take, length-take-le}
 use borrow.Author.Tests.{eqb-true}
 use Rattle.sets.specs.Sets.{every, any, all, total, ascending, sameList}
-use Rattle.sets.specs.Tests.{and-left, and-right, and-both, cond-true}
+use Rattle.sets.specs.Tests.{and-left, and-right, and-both}
 use Rattle.sets.specs.Laws.{all-elim, any-append, all-append, total-append}
 use Rattle.sets.specs.Count.{member-first}
 
@@ -165,14 +165,6 @@ module _ {A : Type 0} where
       swap true false true d = refl
       swap true false false d = refl
       swap false b c d = refl
-
-  -- a sum in which only members with a test count is the whole sum where all have it
-  pub total-counted : (p : A → Bool) (f : A → ℕ) (l : List A) → T (all p l) → total (λ x. cond (p x) (f x) 0) l ≡ total f l
-  total-counted p f [] t = refl
-  total-counted p f (x ∷ l) t =
-      let head : cond (p x) (f x) 0 ≡ f x = cond-true (p x) (f x) 0 (and-left (p x) (all p l) t) in
-      let rest : total (λ y. cond (p y) (f y) 0) l ≡ total f l = total-counted p f l (and-right (p x) (all p l) t) in
-      λ i. head i + rest i
 
   -- a list of members that are all one, and the other way round
   pub all-one : (p : A → Bool) (z : A) → ((x : A) → T (p x) → x ≡ z) → (l : List A) → T (all p l) → l ≡ replicate (length l) z

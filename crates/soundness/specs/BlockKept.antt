@@ -11,11 +11,10 @@ use Rattle.sets.specs.Sets.{all, has, ascending}
 use Rattle.sets.specs.Laws.{any-intro, all-elim, keep-from, keep-holds, gather-intro, gather-elim, together-from}
 use Rattle.sets.specs.Order.{ascending-keep, together-ascending}
 use Rattle.sets.specs.Count.{take-from, each-cons}
-use Rattle.rules.specs.declared.Number.{Number}
 use Rattle.rules.specs.declared.Entry.{Entry}
 use Rattle.rules.specs.Sizes.{mostStates}
-use Rattle.rules.specs.Chain.{sameNumber, sameReference, sameEntry, beforeEntry, Transaction, beforeTransaction, Block, makes, made, spent, isOwn}
-use Rattle.rules.specs.ChainLaws.{sameNumber-refl}
+use Rattle.rules.specs.Chain.{sameReference, sameEntry, beforeEntry, Transaction, beforeTransaction, Block, makes, made, spent, isOwn}
+use Rattle.rules.specs.ChainLaws.{sameNumber-of}
 use Rattle.rules.specs.States.{State, Wallet, states, withEntries, ownMade, spends, blockUtxo, blockPending, blockExpected, afterBlock}
 use Rattle.rules.specs.Sound.{heldEntries, heldPayments, agree, agreeing, sound}
 use Rattle.rules.specs.Steps.{alreadyUnspent, contradicts}
@@ -46,7 +45,7 @@ unfolding contradicts
 transaction-held w b t u p m n e =
     let c = none-failed (all (λ e. all (agree e) (heldEntries w)) (made b)) (all (λ t. all (agreeing t) (heldPayments w)) b) t in
     agreeing-equal u p (all-elim (agreeing u) (all-elim (λ (u : Transaction). all (agreeing u) (heldPayments w)) (c .1) m) n)
-    (subst (λ (x : Number). T (sameNumber (u .number) x)) e (sameNumber-refl (u .number)))
+    (sameNumber-of e)
 
 -- ── where what is held after the block comes from
 

@@ -44,7 +44,7 @@ few-held w k l t held =
           (λ x m. any-intro (sameEntry x) (held x m) (sameEntry-refl x)),
     )
 
-few-utxo : (w : Wallet) → Sound w → length (w .present .utxo) ≤ mostReferences
+pub few-utxo : (w : Wallet) → Sound w → length (w .present .utxo) ≤ mostReferences
 few-utxo w k =
     few-held w k (w .present .utxo) (k .utxo-ascending (w .present) (List·Memᴰ·head refl)) (λ e m. held-utxo w (List·Memᴰ·head refl) m)
 

@@ -1,9 +1,9 @@
 -- Entries by their references, transactions by their numbers: sameness and order as the set laws ask for them.
-use mathlib.Core.Path.{sym, subst}
+use mathlib.Core.Path.{sym, subst, _≡_}
 use mathlib.Core.Logic.{_⊎_, inl, inr, ⊎-elim}
 use mathlib.Core.Bool.{not}
 use lib.Dec.{T}
-use Rattle.sets.specs.Tests.{T-cases}
+use Rattle.sets.specs.Tests.{T-cases, same-test}
 use Rattle.rules.specs.declared.Reference.{Reference}
 use Rattle.rules.specs.declared.Entry.{Entry}
 use Rattle.rules.specs.Chain.{sameNumber, sameReference, sameEntry, beforeEntry, Transaction, sameTransaction, beforeTransaction}
@@ -16,6 +16,9 @@ sameEntry-refl a = sameReference-refl (a .reference)
 
 pub sameEntry-sym : (a b : Entry) → T (sameEntry a b) → T (sameEntry b a)
 sameEntry-sym a b t = sameReference-sym (a .reference) (b .reference) t
+
+pub sameEntry-turned : (a b : Entry) → sameEntry a b ≡ sameEntry b a
+sameEntry-turned a b = same-test (sameEntry a b) (sameEntry b a) (sameEntry-sym a b) (sameEntry-sym b a)
 
 pub sameEntry-trans : (a b c : Entry) → T (sameEntry a b) → T (sameEntry b c) → T (sameEntry a c)
 sameEntry-trans a b c s t =

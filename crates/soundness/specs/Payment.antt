@@ -12,7 +12,7 @@ use Rattle.sets.specs.Count.{each-cons}
 use Rattle.rules.specs.declared.Number.{Number}
 use Rattle.rules.specs.declared.Entry.{Entry}
 use Rattle.rules.specs.Chain.{sameNumber, sameEntry, beforeEntry, Transaction, sameTransaction, beforeTransaction, makes, shapedTransaction}
-use Rattle.rules.specs.ChainLaws.{sameNumber-refl, sameNumber-eq, sameTransaction-refl}
+use Rattle.rules.specs.ChainLaws.{sameNumber-eq, sameTransaction-refl, sameNumber-of}
 use Rattle.rules.specs.States.{State, Wallet, states, afterPayment}
 use Rattle.rules.specs.Sound.{heldEntries, heldPayments, sound}
 use Rattle.rules.specs.Steps.{numberTaken}
@@ -28,14 +28,14 @@ unfolding numberTaken
 not-pending w n t q m e =
     T-not (numberTaken w n) t
     (or-left (any (λ q. sameNumber n (q .number)) (heldPayments w)) (any (λ e. sameNumber n (e .reference .number)) (heldEntries w))
-    (any-intro (λ (q : Transaction). sameNumber n (q .number)) m (subst (λ (x : Number). T (sameNumber n x)) e (sameNumber-refl n))))
+    (any-intro (λ (q : Transaction). sameNumber n (q .number)) m (sameNumber-of e)))
 
 pub not-held : (w : Wallet) (n : Number) → T (not (numberTaken w n)) → (f : Entry) → List·Memᴰ f (heldEntries w) → n ≡ f .reference .number → ⊥
 unfolding numberTaken
 not-held w n t f m e =
     T-not (numberTaken w n) t
     (or-right (any (λ q. sameNumber n (q .number)) (heldPayments w)) (any (λ e. sameNumber n (e .reference .number)) (heldEntries w))
-    (any-intro (λ (e : Entry). sameNumber n (e .reference .number)) m (subst (λ (x : Number). T (sameNumber n x)) e (sameNumber-refl n))))
+    (any-intro (λ (e : Entry). sameNumber n (e .reference .number)) m (sameNumber-of e)))
 
 -- ── what the wallet holds after it
 

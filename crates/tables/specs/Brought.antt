@@ -13,7 +13,7 @@ use Rattle.rules.specs.declared.Number.{Number}
 use Rattle.rules.specs.declared.Reference.{Reference}
 use Rattle.rules.specs.declared.Entry.{Entry}
 use Rattle.rules.specs.Chain.{sameNumber, sameReference, sameEntry, Transaction, makes, made, spent, isOwn}
-use Rattle.rules.specs.ChainLaws.{sameNumber-refl, sameNumber-eq}
+use Rattle.rules.specs.ChainLaws.{sameNumber-refl, sameNumber-eq, sameNumber-of}
 use Rattle.rules.specs.States.{State, ownMade}
 use Rattle.rules.specs.Minimum.{expectedNumbers, stands}
 use Rattle.futures.specs.Forced.{needed, forced}
@@ -23,10 +23,6 @@ use Rattle.tables.specs.Present.{Present, one-payment}
 use Rattle.tables.specs.Makers.{made-by, by-made, maker-number, chosen-made, number-expected}
 
 -- equal numbers are the same
-same-numbers : {a b : Number} → a ≡ b → T (sameNumber a b)
-same-numbers {a} e = subst (λ (n : Number). T (sameNumber a n)) e (sameNumber-refl a)
-
--- an expected number is forced when an input of it is needed
 number-forced :
     (s : State) (ps : List Transaction) (n : Number) → List·Memᴰ n (expectedNumbers (s .expected)) →
     has sameNumber n (forced s ps) ≡ any (λ i. sameNumber (i .number) n) (needed s ps)
@@ -142,7 +138,7 @@ module _ {own : List ℕ} {s : State} (k : Present own s) (m : ℕ) where
           (λ (c : T (stands (made ps) (i .0))).
           let q = made-by ps (i .0) c in
           any-not (λ (x : Transaction). sameNumber (x .number) n) (and-right soft (not owner) h) (q .1)
-          (same-numbers
+          (sameNumber-of
           (maker-number (q .0) (i .0) (q .2)
           ∙ sameNumber-eq (i .0 .number) n (and-left (sameNumber (i .0 .number) n) (not (stands (s .utxo) (i .0))) w)))))
           (or-cases hard (soft && not owner) t)

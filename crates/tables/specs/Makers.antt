@@ -1,10 +1,10 @@
 -- Where the inputs of chosen payments stand: which payment makes a reference, and when the forced numbers are enough.
-use mathlib.Core.Path.{_≡_, sym, ap, subst, _∙_}
+use mathlib.Core.Path.{_≡_, sym, ap, _∙_}
 use mathlib.Core.Logic.{⊎-elim}
 use mathlib.Core.Bool.{Bool, _||_}
 use mathlib.Core.List.{List, map, List·Memᴰ}
 use Prim.Native.Nat.{ℕ}
-use lib.Dec.{T, T-not}
+use lib.Dec.{T}
 use Rattle.sets.specs.Sets.{has, pairwise}
 use Rattle.sets.specs.Tests.{or-left, or-right, or-cases}
 use Rattle.sets.specs.Laws.{any-intro, any-elim, keep-from, keep-intro, map-intro, gather-intro, gather-elim}
@@ -20,7 +20,7 @@ use Rattle.rules.specs.Minimum.{Future, expectedNumbers, brought, stands, share
 use Rattle.futures.specs.Forced.{forcedFuture, forced-allowed, provided, allowed-provided, allowed-intro}
 use Rattle.soundness.specs.Made.{makes-number}
 use Rattle.tables.specs.Tables.{held}
-use Rattle.tables.specs.Present.{Present, otherNumber, numbers-differ}
+use Rattle.tables.specs.Present.{Present, otherNumber, numbers-differ, other-never}
 
 -- ── which payment makes a reference
 
@@ -54,14 +54,9 @@ left-makes {s = s} k m q i h t u =
     let c = made-by (picked m (s .pending)) i u in
     let e : c .0 .number ≡ q .number = maker-number (c .0) i (c .2) ∙ sym (maker-number q i t) in
     ⊎-elim
-    (λ (d : T (otherNumber (c .0) q)). never (c .0) q e d)
-    (λ (d : T (otherNumber q (c .0))). never q (c .0) (sym e) d)
+    (λ (d : T (otherNumber (c .0) q)). other-never (c .0) q e d)
+    (λ (d : T (otherNumber q (c .0))). other-never q (c .0) (sym e) d)
     (picked-apart otherNumber m (s .pending) (numbers-differ k) (c .1) h)
-  where
-    never : (a b : Transaction) → a .number ≡ b .number → T (otherNumber a b) → ⊥
-    never a b e d =
-        T-not (sameNumber (a .number) (b .number)) d
-        (subst (λ (n : Number). T (sameNumber (a .number) n)) e (sameNumber-refl (a .number)))
 
 -- ── allowed, without the numbers
 

@@ -9,7 +9,7 @@ use lib.Dec.{T, ltb}
 use lib.ListN.{length, getD, take, length-map, length-take}
 use Rattle.sets.specs.Sets.{any, all, has, keep}
 use Rattle.sets.specs.Laws.{keep-from}
-use Rattle.sets.specs.Maps.{any-map, any-same, all-same, all-map}
+use Rattle.sets.specs.Maps.{any-map, any-same, all-map}
 use Rattle.sets.specs.Fill.{filled-first}
 use Rattle.rules.specs.declared.Reference.{Reference}
 use Rattle.rules.specs.declared.Entry.{Entry}
@@ -46,17 +46,23 @@ found-here list those these places stop k g h e f s u =
     (omega (arith, length-take (those .count) (those .refs))) k
     (omega (arith, count-of (λ (x : Entry). x .reference) (list .entries) (list .count) these e))
 
+-- the places of all references, as the search leaves them
+places-list :
+    (these those : Refs) (places : Places) → places ≡ placesOf (map (λ x. seek x (refsIn those)) (refsIn these)) →
+    take (places .count) (places .at) ≡ map (λ x. seek x (refsIn those)) (refsIn these)
+places-list these those places e =
+    ap (λ (p : Places). take (p .count) (p .at)) e ∙ filled-first 128 0 (map (λ x. seek x (refsIn those)) (refsIn these))
+
 -- every reference was found, told by their places
 pub all-sought :
     (these those : Refs) (places : Places) (stop : ℕ) → places ≡ placesOf (map (λ x. seek x (refsIn those)) (refsIn these)) →
     stop ≡ length (refsIn those) →
     all (λ a. ltb a stop) (take (places .count) (places .at)) ≡ all (λ x. has sameReference x (refsIn those)) (refsIn these)
 all-sought these those places stop e f =
-    ap (λ (p : Places). all (λ a. ltb a stop) (take (p .count) (p .at))) e
-    ∙ ap (all (λ a. ltb a stop)) (filled-first 128 0 (map (λ x. seek x (refsIn those)) (refsIn these)))
+    ap (all (λ a. ltb a stop)) (places-list these those places e)
     ∙ all-map (λ a. ltb a stop) (λ x. seek x (refsIn those)) (refsIn these)
-    ∙ all-same (λ x. ltb (seek x (refsIn those)) stop) (λ x. has sameReference x (refsIn those)) (refsIn these)
-    (λ x m. ap (ltb (seek x (refsIn those))) f ∙ seek-found x (refsIn those))
+    ∙ (λ t. all (λ x. ltb (seek x (refsIn those)) (f t)) (refsIn these))
+    ∙ (λ t. all (λ x. seek-found x (refsIn those) t) (refsIn these))
 
 -- some reference was found
 pub any-sought :
@@ -64,11 +70,10 @@ pub any-sought :
     stop ≡ length (refsIn those) →
     any (λ a. ltb a stop) (take (places .count) (places .at)) ≡ any (λ x. has sameReference x (refsIn those)) (refsIn these)
 any-sought these those places stop e f =
-    ap (λ (p : Places). any (λ a. ltb a stop) (take (p .count) (p .at))) e
-    ∙ ap (any (λ a. ltb a stop)) (filled-first 128 0 (map (λ x. seek x (refsIn those)) (refsIn these)))
+    ap (any (λ a. ltb a stop)) (places-list these those places e)
     ∙ any-map (λ a. ltb a stop) (λ x. seek x (refsIn those)) (refsIn these)
-    ∙ any-same (λ x. ltb (seek x (refsIn those)) stop) (λ x. has sameReference x (refsIn those)) (refsIn these)
-    (λ x m. ap (ltb (seek x (refsIn those))) f ∙ seek-found x (refsIn those))
+    ∙ (λ t. any (λ x. ltb (seek x (refsIn those)) (f t)) (refsIn these))
+    ∙ (λ t. any (λ x. seek-found x (refsIn those) t) (refsIn these))
 
 -- ── a payment's inputs, a block's outputs
 
