@@ -157,6 +157,6 @@ pub fn no_payments(list: Block) -> bool
 {
     let transactions = list.transactions;
     let empty = zero_transactions(transactions);
-    let none = list.count == 0;
-    empty & none
+    let nobody = list.count == 0;
+    empty & nobody
 }
