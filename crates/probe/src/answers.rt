@@ -1,6 +1,6 @@
 // What every step and every query answers to a wallet.
-use crate::same::same_wallet;
 use crate::text::put_small;
+use alike::same_wallet;
 use chain::Block;
 use chain::Transaction;
 use rules::MOST_TRANSACTIONS;

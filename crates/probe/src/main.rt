@@ -18,7 +18,6 @@ mod answers;
 mod damage;
 mod events;
 mod inside;
-mod same;
 mod text;
 mod times;
 

@@ -3,7 +3,7 @@ use crate::lines::number;
 use crate::lines::say;
 use crate::lines::signed;
 use crate::lines::verdict;
-use crate::same::same_wallet;
+use alike::same_wallet;
 use chain::Block;
 use chain::Transaction;
 use flat::Made;

@@ -8,7 +8,6 @@ mod lines;
 mod papers;
 mod probe;
 mod refusals;
-mod same;
 mod sizes;
 mod spoil;
 mod tangle;

@@ -1,4 +1,10 @@
-// Whether two wallets are the same in every place, used or not, and whether a list is empty in every place.
+// Whether two wallets are alike in every place, used or not, and whether a list holds nothing in any place. The steps and
+// queries need neither; the programs that test them do.
+ghost use mathlib.Core.Path.{_≡_};
+ghost use lib.Dec.{eqb};
+ghost use Rattle.alike.specs.Alike.{alike, alikeEntry, alikeHeld, alikePayment, noEntries, noEntry, noPayments};
+ghost use Rattle.chain.specs.View.{noTransaction};
+ghost use Rattle.sets.specs.Sets.{all, sameList};
 use chain::Block;
 use chain::Transaction;
 use flat::Made;
@@ -11,7 +17,10 @@ use rules::MOST_REFERENCES;
 use rules::MOST_TRANSACTIONS;
 use wallet::Wallet;
 
-fn same_own(a: [u32; MOST_OWN], b: [u32; MOST_OWN]) -> bool {
+// The same own address in every place.
+fn same_own(a: [u32; MOST_OWN], b: [u32; MOST_OWN]) -> bool
+    ensures { λ r. ⌜ r ≡ sameList eqb a b ⌝ }
+{
     let mut ok = true;
     let mut i = 0;
     while i < MOST_OWN {
@@ -22,21 +31,28 @@ fn same_own(a: [u32; MOST_OWN], b: [u32; MOST_OWN]) -> bool {
     ok
 }
 
-fn same_entry(a: Entry, b: Entry) -> bool {
+fn same_entry(a: Entry, b: Entry) -> bool
+    ensures { λ r. ⌜ r ≡ alikeEntry a b ⌝ }
+{
     let reference = chain::same_reference(a.reference, b.reference);
     let address = a.address == b.address;
     let amount = a.amount == b.amount;
     reference & address & amount
 }
 
-fn same_held(a: Held, b: Held) -> bool {
+fn same_held(a: Held, b: Held) -> bool
+    ensures { λ r. ⌜ r ≡ alikeHeld a b ⌝ }
+{
     let entry = same_entry(a.entry, b.entry);
     let utxo = a.utxo == b.utxo;
     let expected = a.expected == b.expected;
     entry & utxo & expected
 }
 
-fn same_entries(a: [Held; MOST_REFERENCES], b: [Held; MOST_REFERENCES]) -> bool {
+// The same entry with the same marks in every place.
+fn same_entries(a: [Held; MOST_REFERENCES], b: [Held; MOST_REFERENCES]) -> bool
+    ensures { λ r. ⌜ r ≡ sameList alikeHeld a b ⌝ }
+{
     let mut ok = true;
     let mut i = 0;
     while i < MOST_REFERENCES {
@@ -47,7 +63,9 @@ fn same_entries(a: [Held; MOST_REFERENCES], b: [Held; MOST_REFERENCES]) -> bool 
     ok
 }
 
-fn same_payment(a: Payment, b: Payment) -> bool {
+fn same_payment(a: Payment, b: Payment) -> bool
+    ensures { λ r. ⌜ r ≡ alikePayment a b ⌝ }
+{
     let transaction_a = a.transaction;
     let transaction_b = b.transaction;
     let transaction = chain::same_transaction(transaction_a, transaction_b);
@@ -55,7 +73,10 @@ fn same_payment(a: Payment, b: Payment) -> bool {
     transaction & pending
 }
 
-fn same_payments(a: [Payment; MOST_PAYMENTS], b: [Payment; MOST_PAYMENTS]) -> bool {
+// The same payment with the same marks in every place.
+fn same_payments(a: [Payment; MOST_PAYMENTS], b: [Payment; MOST_PAYMENTS]) -> bool
+    ensures { λ r. ⌜ r ≡ sameList alikePayment a b ⌝ }
+{
     let mut ok = true;
     let mut i = 0;
     while i < MOST_PAYMENTS {
@@ -66,7 +87,10 @@ fn same_payments(a: [Payment; MOST_PAYMENTS], b: [Payment; MOST_PAYMENTS]) -> bo
     ok
 }
 
-pub(crate) fn same_wallet(w: Wallet, v: Wallet) -> bool {
+// Whether two wallets are alike in every place, used or not.
+pub fn same_wallet(w: Wallet, v: Wallet) -> bool
+    ensures { λ r. ⌜ r ≡ alike w v ⌝ }
+{
     let a = w.pool;
     let b = v.pool;
     let own_a = a.own;
@@ -85,20 +109,29 @@ pub(crate) fn same_wallet(w: Wallet, v: Wallet) -> bool {
     own & entries & payments & owns & below & used & paying
 }
 
+fn no_entry(entry: Entry) -> bool
+    ensures { λ r. ⌜ r ≡ noEntry entry ⌝ }
+{
+    same_entry(entry, flat::zero_entry())
+}
+
 // Nothing in any place of an array of entries, or of transactions.
-fn zero_entries(entries: [Entry; MOST_REFERENCES]) -> bool {
-    let none = flat::zero_entry();
+fn zero_entries(entries: [Entry; MOST_REFERENCES]) -> bool
+    ensures { λ r. ⌜ r ≡ all noEntry entries ⌝ }
+{
     let mut ok = true;
     let mut i = 0;
     while i < MOST_REFERENCES {
-        let here = same_entry(entries[i], none);
+        let here = no_entry(entries[i]);
         ok = ok & here;
         i += 1;
     }
     ok
 }
 
-fn zero_transactions(transactions: [Transaction; MOST_TRANSACTIONS]) -> bool {
+fn zero_transactions(transactions: [Transaction; MOST_TRANSACTIONS]) -> bool
+    ensures { λ r. ⌜ r ≡ all noTransaction transactions ⌝ }
+{
     let mut ok = true;
     let mut i = 0;
     while i < MOST_TRANSACTIONS {
@@ -109,15 +142,19 @@ fn zero_transactions(transactions: [Transaction; MOST_TRANSACTIONS]) -> bool {
     ok
 }
 
-// An empty list, zero in every place.
-pub(crate) fn no_entries(list: Made) -> bool {
+// Whether a list of entries, or of payments, has the count 0 and nothing in any place.
+pub fn no_entries(list: Made) -> bool
+    ensures { λ r. ⌜ r ≡ noEntries list ⌝ }
+{
     let entries = list.entries;
     let empty = zero_entries(entries);
     let none = list.count == 0;
     empty & none
 }
 
-pub(crate) fn no_payments(list: Block) -> bool {
+pub fn no_payments(list: Block) -> bool
+    ensures { λ r. ⌜ r ≡ noPayments list ⌝ }
+{
     let transactions = list.transactions;
     let empty = zero_transactions(transactions);
     let none = list.count == 0;

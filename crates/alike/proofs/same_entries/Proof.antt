@@ -1,20 +1,29 @@
--- Every place of two arrays of entries is read within its array.
+-- The walk over two arrays tells whether they are alike. Invariant: the flag, with the places still to come, says it of
+-- all of them.
 use Prim.Native.Nat.{_≤_, _-_}
-use mathlib.Core.Path.{_≡_}
-use lib.ListN.{length}
+use mathlib.Core.Path.{_≡_, refl}
+use mathlib.Core.Bool.{_&&_}
+use lib.ListN.{length, drop}
+use Rattle.sets.specs.Sets.{sameList}
+use Rattle.sets.specs.Walks.{same-step, same-end}
+use Rattle.alike.specs.Alike.{alikeHeld}
 use Rattle.rules.specs.Sizes.{mostReferences}
 use borrow.Author.Needs.{needs}
-use Rattle.probe.proofs.same.same_entries.Statement.{statement}
-use Rattle.probe.proofs.same.same_entries.Tie as tie
+use Rattle.alike.proofs.same_entries.Statement.{statement}
+use Rattle.alike.proofs.same_entries.Tie as tie
 
 abbrev Inv-loop : tie.InvT-loop
-Inv-loop a b ok₀ i₀ ok i = (i ≤ mostReferences) × (length a ≡ mostReferences) × (length b ≡ mostReferences)
+Inv-loop a b ok₀ i₀ ok i =
+    (i ≤ mostReferences)
+    × (length a ≡ mostReferences)
+    × (length b ≡ mostReferences)
+    × ((ok && sameList alikeHeld (drop i a) (drop i b)) ≡ sameList alikeHeld a b)
 
 abbrev μ-loop : tie.MeasureT-loop
 μ-loop a b ok₀ i₀ ok i = mostReferences - i
 
 loop-holds : tie.Need-loop-holds Inv-loop μ-loop
-loop-holds c = (search needs, search needs, search needs)
+loop-holds c = (search needs, search needs, search needs, refl)
 
 mul-same-held : tie.Need-mul-same-held Inv-loop μ-loop
 mul-same-held c = search needs
@@ -38,10 +47,20 @@ loop-less : tie.Need-loop-less Inv-loop μ-loop
 loop-less c = search needs
 
 loop-again : tie.Need-loop-again Inv-loop μ-loop
-loop-again c = (search needs, search needs, search needs)
+loop-again c =
+    let at = c .before .before .before .before in (
+      search needs,
+      search needs,
+      search needs,
+      same-step alikeHeld (at .before .args .t1) (at .before .args .t2) (at .loop .i) _ (at .loop .ok) _ _
+          (search needs) (search needs) (at .loop .inv .3) (c .same-held .ensures),
+    )
 
 returns : tie.Need-returns Inv-loop μ-loop
-returns c = search needs
+returns c =
+    let at = c .before in
+    same-end alikeHeld (at .before .args .t1) (at .before .args .t2) (at .loop .i) _ _
+    (search needs) (search needs) (at .loop .inv .3)
 
 pub same-entries-spec : {M : Type 1} → statement M
 same-entries-spec =
