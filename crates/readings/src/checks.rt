@@ -1,202 +1,85 @@
-// Checks of a step and of a wallet, each with its line.
-use crate::lines::number;
-use crate::lines::say;
-use crate::lines::signed;
-use crate::lines::verdict;
+// The checks: each writes what came of the last step, or of a query, and tells whether it is what the line wants.
+use crate::calls::queries;
+use crate::calls::steps;
+use crate::desk::Desk;
+use crate::line::byte_at;
+use crate::line::further;
+use crate::line::number;
+use crate::line::seen;
+use crate::say::moved;
+use crate::say::part;
+use crate::say::say;
+use crate::say::say_label;
+use crate::say::size;
+use crate::say::verdict;
 use alike::same_wallet;
 use chain::Block;
-use chain::Transaction;
 use flat::Made;
+use minimum::Least;
+use minimum::ThreeBalances;
+use rules::MOST_TRANSACTIONS;
 use wallet::Listed;
 use wallet::Pending;
-use wallet::Step;
 use wallet::Wallet;
 
-// A part of a line: what it is, and its number.
-fn part(label: &[u8], n: u64) {
-    say(label);
-    number(n);
+// Whether a number that came is the one that a line has in a place.
+fn is_number(text: &[u8], at: usize, wanted: usize, came: u64) -> bool {
+    number(text, at, wanted) == came
 }
 
-fn moved(n: i64) {
-    say(b", moved ");
-    signed(n);
+// The same of a movement, whose sign may be a minus.
+fn is_movement(text: &[u8], at: usize, wanted: usize, came: i64) -> bool {
+    let line = seen(text, at, wanted);
+    let below = came < 0;
+    (line.value == size(came)) & (line.minus == below)
 }
 
-// The end of a line on a step: where it is wrong, with the answer and the movement that were wanted.
-fn close(good: bool, answer: u32, movement: i64) {
-    if !good {
-        part(b", wanted answer ", answer as u64);
-        moved(movement);
-    }
-    verdict(good);
+// ? done ANSWER MOVEMENT
+fn done(text: &[u8], at: usize, desk: Desk) -> bool {
+    part(b": answer ", desk.answer as u64);
+    moved(desk.movement);
+    let same = is_number(text, at, 1, desk.answer as u64);
+    same & is_movement(text, at, 2, desk.movement)
 }
 
-// The line on a step's answer and movement.
-fn told_step(asked: &[u8], answer: u32, movement: i64, wanted: u32, wanted_movement: i64) {
-    let good = (answer == wanted) & (movement == wanted_movement);
-    say(asked);
-    part(b": answer ", answer as u64);
-    moved(movement);
-    close(good, wanted, wanted_movement);
-}
-
-// A step's answer and movement, held against those wanted. Hands the wallet on.
-pub(crate) fn step(asked: &[u8], came: Step, answer: u32, movement: i64) -> Wallet {
-    told_step(asked, came.answer, came.movement, answer, movement);
-    came.wallet
-}
-
-// The line on a refused step.
-fn told_refusal(asked: &[u8], answer: u32, movement: i64, same: bool, wanted: u32) {
-    let good = (answer == wanted) & (movement == 0);
-    say(asked);
-    part(b": answer ", answer as u64);
-    moved(movement);
+// ? refused ANSWER: no movement, and the very wallet that came in
+fn refused(text: &[u8], at: usize, desk: Desk) -> bool {
+    let same = same_wallet(desk.before, desk.wallet);
+    part(b": answer ", desk.answer as u64);
+    moved(desk.movement);
     if same {
         say(b", wallet the same");
-    } else {
-        say(b", another wallet");
     }
-    close(good & same, wanted, 0);
+    let still = same & (desk.movement == 0);
+    still & is_number(text, at, 1, desk.answer as u64)
 }
 
-// A refused step: its answer, no movement, and the very wallet that came in.
-pub(crate) fn refused(asked: &[u8], before: Wallet, came: Step, answer: u32) {
-    let after = came.wallet;
-    let same = same_wallet(before, after);
-    told_refusal(asked, came.answer, came.movement, same, answer);
-}
-
-// Each step accepted, with its movement.
-pub(crate) fn paid(asked: &[u8], w: Wallet, t: Transaction, movement: i64) -> Wallet {
-    step(asked, w.pay(t), 0, movement)
-}
-
-pub(crate) fn booked(asked: &[u8], w: Wallet, b: Block, movement: i64) -> Wallet {
-    step(asked, w.block(b), 0, movement)
-}
-
-pub(crate) fn rolled(asked: &[u8], w: Wallet, movement: i64) -> Wallet {
-    step(asked, w.roll_back(), 0, movement)
-}
-
-// Each step refused, with its number.
-pub(crate) fn not_paid(asked: &[u8], w: Wallet, t: Transaction, answer: u32) {
-    refused(asked, w, w.pay(t), answer);
-}
-
-pub(crate) fn not_booked(asked: &[u8], w: Wallet, b: Block, answer: u32) {
-    refused(asked, w, w.block(b), answer);
-}
-
-pub(crate) fn not_rolled(asked: &[u8], w: Wallet, answer: u32) {
-    refused(asked, w, w.roll_back(), answer);
-}
-
-// The part of a line on two balances.
-fn told_balances(free: u64, all: u64, available: u64, total: u64) -> bool {
+// ? case ANSWER AVAILABLE TOTAL MOVEMENT
+fn case(text: &[u8], at: usize, desk: Desk) -> bool {
+    let w = desk.wallet;
+    let free = w.available().amount;
+    let all = w.total().amount;
+    part(b": answer ", desk.answer as u64);
     part(b", available ", free);
     part(b", total ", all);
-    let good = (free == available) & (all == total);
-    if !good {
-        part(b", wanted ", available);
-        part(b" and ", total);
+    moved(desk.movement);
+    let step = is_number(text, at, 1, desk.answer as u64) & is_movement(text, at, 4, desk.movement);
+    step & is_number(text, at, 2, free) & is_number(text, at, 3, all)
+}
+
+// ? available AMOUNT, and so total, held, unspent, expected and pending
+fn amount(text: &[u8], at: usize, came: u64) -> bool {
+    part(b": ", came);
+    is_number(text, at, 1, came)
+}
+
+// ? like PLACE: the very wallet that is kept there
+fn like(w: Wallet, there: Wallet) -> bool {
+    let same = same_wallet(w, there);
+    if same {
+        say(b": yes");
     }
-    good
-}
-
-// The balances of a wallet, held against those wanted.
-fn balances(w: Wallet, available: u64, total: u64) -> bool {
-    told_balances(w.available().amount, w.total().amount, available, total)
-}
-
-// A step of the case F: answer, available, total and movement.
-pub(crate) fn event(
-    asked: &[u8],
-    came: Step,
-    answer: u32,
-    available: u64,
-    total: u64,
-    movement: i64,
-) -> Wallet {
-    let after = came.wallet;
-    say(asked);
-    part(b": answer ", came.answer as u64);
-    let balanced = balances(after, available, total);
-    moved(came.movement);
-    let good = (came.answer == answer) & (came.movement == movement);
-    close(good & balanced, answer, movement);
-    after
-}
-
-// The line on a minimum.
-fn told_least(
-    asked: &[u8],
-    came: minimum::Least,
-    stand: u64,
-    amount: u64,
-    payments: u32,
-    pending: u64,
-) {
-    let reached = (came.amount == amount) & (came.payments == payments);
-    let good = (came.answer == 0) & reached & (stand == pending);
-    say(asked);
-    part(b": ", came.amount);
-    part(b" with ", came.payments as u64);
-    part(b" of ", stand);
-    say(b" payments");
-    if !good {
-        part(b", answer ", came.answer as u64);
-        part(b", wanted ", amount);
-        part(b" with ", payments as u64);
-        part(b" of ", pending);
-    }
-    verdict(good);
-}
-
-// How many payments are pending.
-pub(crate) fn pending(w: Wallet) -> u64 {
-    w.pending_list().list.count as u64
-}
-
-// The minimum of a wallet, the fewest payments that reach it and how many are pending, held against those wanted.
-pub(crate) fn least(asked: &[u8], w: Wallet, amount: u64, payments: u32, stand: u64) {
-    told_least(
-        asked,
-        minimum::minimum(w),
-        pending(w),
-        amount,
-        payments,
-        stand,
-    );
-}
-
-// The three balances that one call gives, held against those wanted.
-pub(crate) fn three(
-    asked: &[u8],
-    came: minimum::ThreeBalances,
-    available: u64,
-    total: u64,
-    amount: u64,
-    payments: u32,
-) {
-    let reached = (came.minimum == amount) & (came.payments == payments);
-    let others = (came.available == available) & (came.total == total);
-    let good = (came.answer == 0) & reached & others;
-    say(asked);
-    part(b": available ", came.available);
-    part(b", total ", came.total);
-    part(b", minimum ", came.minimum);
-    part(b" with ", came.payments as u64);
-    if !good {
-        part(b", answer ", came.answer as u64);
-        part(b", wanted ", available);
-        part(b", ", total);
-        part(b", ", amount);
-        part(b" with ", payments as u64);
-    }
-    verdict(good);
+    same
 }
 
 fn first_of(list: Made) -> rules::Reference {
@@ -205,63 +88,129 @@ fn first_of(list: Made) -> rules::Reference {
     first.reference
 }
 
-// The line on a list with one entry.
-fn told_single(asked: &[u8], count: u64, serial: u64, index: u16, good: bool) {
-    say(asked);
-    part(b": ", count);
-    part(b" entry, ", serial);
-    part(b".", index as u64);
-    verdict(good & (count == 1));
-}
-
-// A list with one entry.
-pub(crate) fn single(asked: &[u8], came: Listed, serial: u64, index: u16) {
+// ? only unspent REFERENCE, or expected, or available: a list of one entry
+fn only(text: &[u8], at: usize, came: Listed) -> bool {
     let list = came.list;
-    let reference = first_of(list);
-    let first = reference.number;
-    let named = (first.serial == serial) & (reference.index == index);
-    told_single(
-        asked,
-        list.count as u64,
-        first.serial,
-        reference.index,
-        named & (came.answer == 0),
-    );
-}
-
-// The number of the first payment of a list, or of the second.
-fn first_number(list: Block) -> u64 {
-    let transactions = list.transactions;
-    let first = transactions[0];
-    first.number.serial
-}
-
-fn second_number(list: Block) -> u64 {
-    let transactions = list.transactions;
-    let second = transactions[1];
-    second.number.serial
-}
-
-// The line on a list with two payments.
-fn told_pair(asked: &[u8], count: u64, first: u64, second: u64, good: bool) {
-    say(asked);
+    let first = first_of(list);
+    let count = list.count as u64;
     part(b": ", count);
-    part(b" payments, ", first);
-    part(b" and ", second);
-    verdict(good & (count == 2));
+    part(b" entry, ", first.number.serial);
+    part(b".", first.index as u64);
+    let named = is_number(text, at, 1, first.number.serial);
+    let placed = is_number(text, at, 2, first.index as u64);
+    named & placed & (count == 1) & (came.answer == 0)
 }
 
-// A list with two payments.
-pub(crate) fn pair(asked: &[u8], came: Pending, low: u64, high: u64) {
+fn only_of(text: &[u8], at: usize, w: Wallet) -> bool {
+    match byte_at(text, further(at, 7)) {
+        b'u' => only(text, at, w.utxo_list()),
+        b'e' => only(text, at, w.expected_list()),
+        _ => only(text, at, w.available_list()),
+    }
+}
+
+// The number of the payment in a place of a list.
+fn number_of(list: Block, place: usize) -> u64 {
+    let transactions = list.transactions;
+    if MOST_TRANSACTIONS <= place {
+        return 0;
+    }
+    let payment = transactions[place];
+    payment.number.serial
+}
+
+// ? numbers LOW HIGH: a list of two pending payments
+fn numbers(text: &[u8], at: usize, came: Pending) -> bool {
     let list = came.list;
-    let first = first_number(list);
-    let second = second_number(list);
-    let named = (first == low) & (second == high);
-    told_pair(
-        asked,
-        list.count as u64,
-        first,
-        second,
-        named & (came.answer == 0),
-    );
+    let count = list.count as u64;
+    let low = number_of(list, 0);
+    let high = number_of(list, 1);
+    part(b": ", count);
+    part(b" payments, ", low);
+    part(b" and ", high);
+    let named = is_number(text, at, 1, low) & is_number(text, at, 2, high);
+    named & (count == 2) & (came.answer == 0)
+}
+
+// ? minimum AMOUNT PAYMENTS PENDING: the minimum, the fewest payments that reach it, and how many are pending
+fn least(text: &[u8], at: usize, came: Least, pending: u64) -> bool {
+    let payments = came.payments as u64;
+    part(b": ", came.amount);
+    part(b" with ", payments);
+    part(b" of ", pending);
+    say(b" payments");
+    let reached = is_number(text, at, 1, came.amount) & is_number(text, at, 2, payments);
+    reached & is_number(text, at, 3, pending) & (came.answer == 0)
+}
+
+// ? balances AVAILABLE TOTAL MINIMUM PAYMENTS: what one call gives
+fn three(text: &[u8], at: usize, came: ThreeBalances) -> bool {
+    let payments = came.payments as u64;
+    part(b": available ", came.available);
+    part(b", total ", came.total);
+    part(b", minimum ", came.minimum);
+    part(b" with ", payments);
+    let others = is_number(text, at, 1, came.available) & is_number(text, at, 2, came.total);
+    let reached = is_number(text, at, 3, came.minimum) & is_number(text, at, 4, payments);
+    others & reached & (came.answer == 0)
+}
+
+// ? sound: no call answers 9
+fn sound(w: Wallet) -> bool {
+    let nines = std::num::wrapping_add_u64(steps(w).nines, queries(w).nines);
+    part(b": ", nines);
+    say(b" of 12 calls answered 9");
+    nines == 0
+}
+
+// ? faulty: 9 from each call, and nothing else
+fn faulty(w: Wallet) -> bool {
+    let stepped = steps(w);
+    let queried = queries(w);
+    let nines = std::num::wrapping_add_u64(stepped.nines, queried.nines);
+    part(b": ", nines);
+    part(b" of 12 calls answered 9, ", queried.still);
+    part(b" of 9 queries empty, ", stepped.still);
+    say(b" of 3 wallets the same");
+    (nines == 12) & (queried.still == 9) & (stepped.still == 3)
+}
+
+// The number that a check asks for by its letter.
+fn asked(w: Wallet, letter: u8) -> u64 {
+    match letter {
+        b'a' => w.available().amount,
+        b't' => w.total().amount,
+        b'h' => w.held().amount,
+        b'u' => w.utxo_list().list.count as u64,
+        b'e' => w.expected_list().list.count as u64,
+        b'p' => w.pending_list().list.count as u64,
+        _ => 0,
+    }
+}
+
+// A check by its letter.
+fn passes(text: &[u8], at: usize, desk: Desk, there: Wallet) -> bool {
+    let w = desk.wallet;
+    let letter = byte_at(text, further(at, 2));
+    match letter {
+        b'd' => done(text, at, desk),
+        b'r' => refused(text, at, desk),
+        b'c' => case(text, at, desk),
+        b'l' => like(w, there),
+        b'o' => only_of(text, at, w),
+        b'n' => numbers(text, at, w.pending_list()),
+        b'm' => least(text, at, minimum::minimum(w), asked(w, b'p')),
+        b'b' => three(text, at, minimum::balances(w)),
+        b's' => sound(w),
+        b'f' => faulty(w),
+        _ => amount(text, at, asked(w, letter)),
+    }
+}
+
+// The line of a check.
+pub(crate) fn check(text: &[u8], at: usize, desk: Desk, there: Wallet) -> Desk {
+    say_label(text, at);
+    let good = passes(text, at, desk, there);
+    verdict(text, at, good);
+    desk
 }

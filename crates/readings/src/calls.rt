@@ -1,10 +1,6 @@
 // A wallet struct handed to every step and every query, and how they answer.
-use crate::build::alone;
-use crate::build::on;
-use crate::build::sending;
-use crate::lines::number;
-use crate::lines::say;
-use crate::lines::verdict;
+use crate::build::block_below;
+use crate::build::transaction_in;
 use alike::no_entries;
 use alike::no_payments;
 use alike::same_wallet;
@@ -17,15 +13,15 @@ use wallet::Step;
 use wallet::Wallet;
 
 // How many calls answered 9, and how many had nothing else to say: no movement and the same wallet, no amount, no list.
-struct Tally {
-    nines: u64,
-    still: u64,
+pub(crate) struct Tally {
+    pub nines: u64,
+    pub still: u64,
 }
 
 fn told(t: Tally, nine: bool, still: bool) -> Tally {
     Tally {
-        nines: on(t.nines, nine as u64),
-        still: on(t.still, still as u64),
+        nines: std::num::wrapping_add_u64(t.nines, nine as u64),
+        still: std::num::wrapping_add_u64(t.still, still as u64),
     }
 }
 
@@ -66,16 +62,16 @@ fn of_balances(t: Tally, came: ThreeBalances) -> Tally {
 }
 
 // The three steps, with a block and a payment that the case F takes after its row 6.
-fn steps(w: Wallet) -> Tally {
+pub(crate) fn steps(w: Wallet) -> Tally {
     let none = Tally { nines: 0, still: 0 };
-    let block = w.block(alone(sending(900, 1, 0, 10, 5)));
-    let pay = w.pay(sending(901, 100, 1, 10, 40));
+    let block = w.block(block_below(b"block\n  900: 1.0 -> 0=10:5", 0));
+    let pay = w.pay(transaction_in(b"901: 100.1 -> 0=10:40", 0, 1));
     let back = w.roll_back();
     of_step(of_step(of_step(none, w, block), w, pay), w, back)
 }
 
 // The nine queries.
-fn queries(w: Wallet) -> Tally {
+pub(crate) fn queries(w: Wallet) -> Tally {
     let none = Tally { nines: 0, still: 0 };
     let amounts = of_amount(
         of_amount(of_amount(none, w.available()), w.total()),
@@ -86,34 +82,4 @@ fn queries(w: Wallet) -> Tally {
     let available = of_list(expected, w.available_list());
     let pending = of_pending(available, w.pending_list());
     of_balances(of_least(pending, minimum::minimum(w)), minimum::balances(w))
-}
-
-// A wallet that is not sound: 9 from each call, and nothing else.
-pub(crate) fn unsound(asked: &[u8], w: Wallet) {
-    let stepped = steps(w);
-    let queried = queries(w);
-    let nines = on(stepped.nines, queried.nines);
-    say(b"unsound: ");
-    say(asked);
-    say(b": ");
-    number(nines);
-    say(b" of 12 calls answered 9, ");
-    number(queried.still);
-    say(b" of 9 queries empty, ");
-    number(stepped.still);
-    say(b" of 3 wallets the same");
-    verdict((nines == 12) & (queried.still == 9) & (stepped.still == 3));
-}
-
-// A sound wallet beside those: 9 from no call.
-pub(crate) fn sound(asked: &[u8], w: Wallet) {
-    let stepped = steps(w);
-    let queried = queries(w);
-    let nines = on(stepped.nines, queried.nines);
-    say(b"sound: ");
-    say(asked);
-    say(b": ");
-    number(nines);
-    say(b" of 12 calls answered 9");
-    verdict(nines == 0);
 }

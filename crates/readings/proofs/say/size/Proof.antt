@@ -10,8 +10,8 @@ use mir.Syntax.{w64}
 use mir.Val.{Fits, SFits, toZ, ofZ}
 use mir.Facts.{toZ-pos, toZ-ofZ}
 use borrow.Author.Needs.{needs}
-use Rattle.readings.proofs.lines.size.Statement.{statement}
-use Rattle.readings.proofs.lines.size.Tie as tie
+use Rattle.readings.proofs.say.size.Statement.{statement}
+use Rattle.readings.proofs.say.size.Tie as tie
 
 next-is : (k : ℕ) → negsuc k +ℤ pos 1 ≡ negℤ (pos k)
 next-is k = +ℤ-sucℤ (negsuc k) (pos 0) ∙ ap sucℤ (+ℤ-idr (negsuc k)) ∙ one-on k
