@@ -3,79 +3,28 @@ use chain::Transaction;
 use pool::Held;
 use pool::Payment;
 use pool::Pool;
-use rules::Entry;
 use rules::LARGEST_AMOUNT;
 use rules::MOST_OWN;
 use rules::MOST_PAYMENTS;
 use rules::MOST_REFERENCES;
 use rules::MOST_STATES;
-use rules::Output;
 
 // Other own addresses, entries or payments in their places.
 fn with_own(p: Pool, own: [u32; MOST_OWN]) -> Pool {
-    let entries = p.entries;
-    let payments = p.payments;
-    Pool {
-        own,
-        owns: p.owns,
-        below: p.below,
-        entries,
-        used: p.used,
-        payments,
-        paying: p.paying,
-    }
+    let mut other = p;
+    other.own = own;
+    other
 }
 
 fn with_entries(p: Pool, entries: [Held; MOST_REFERENCES]) -> Pool {
-    let own = p.own;
-    let payments = p.payments;
-    Pool {
-        own,
-        owns: p.owns,
-        below: p.below,
-        entries,
-        used: p.used,
-        payments,
-        paying: p.paying,
-    }
+    let mut other = p;
+    other.entries = entries;
+    other
 }
 
 fn with_payments(p: Pool, payments: [Payment; MOST_PAYMENTS]) -> Pool {
-    let own = p.own;
-    let entries = p.entries;
-    Pool {
-        own,
-        owns: p.owns,
-        below: p.below,
-        entries,
-        used: p.used,
-        payments,
-        paying: p.paying,
-    }
-}
-
-// Other counts.
-fn owning(p: Pool, owns: usize) -> Pool {
     let mut other = p;
-    other.owns = owns;
-    other
-}
-
-fn standing(p: Pool, below: usize) -> Pool {
-    let mut other = p;
-    other.below = below;
-    other
-}
-
-fn using(p: Pool, used: usize) -> Pool {
-    let mut other = p;
-    other.used = used;
-    other
-}
-
-fn paying(p: Pool, paying: usize) -> Pool {
-    let mut other = p;
-    other.paying = paying;
+    other.payments = payments;
     other
 }
 
@@ -105,66 +54,63 @@ fn entries_exchanged(p: Pool) -> Pool {
     with_entries(p, entries)
 }
 
-// The last entry, or payment, not zero: unused where not all are used.
-fn entry_behind(p: Pool) -> Pool {
+// Another entry, or payment, in one place.
+fn put_held(p: Pool, place: usize, held: Held) -> Pool {
     let mut entries = p.entries;
-    let none = flat::zero_entry();
-    let held = Held {
-        entry: none,
-        utxo: 1,
-        expected: 0,
-    };
-    entries[MOST_REFERENCES - 1] = held;
+    if MOST_REFERENCES <= place {
+        return p;
+    }
+    entries[place] = held;
     with_entries(p, entries)
 }
 
-fn payment_behind(p: Pool) -> Pool {
+fn put_payment(p: Pool, place: usize, payment: Payment) -> Pool {
     let mut payments = p.payments;
-    let none = chain::zero_transaction();
-    let payment = Payment {
-        transaction: none,
-        pending: 1,
-    };
-    payments[MOST_PAYMENTS - 1] = payment;
+    if MOST_PAYMENTS <= place {
+        return p;
+    }
+    payments[place] = payment;
     with_payments(p, payments)
 }
 
-// The first entry with other marks, or with another address and amount.
-fn marked(p: Pool, utxo: u8, expected: u8) -> Pool {
-    let mut entries = p.entries;
-    let first = entries[0];
-    let entry = first.entry;
+// The last entry, or payment, not zero: unused where not all are used.
+fn entry_behind(p: Pool) -> Pool {
     let held = Held {
-        entry,
-        utxo,
-        expected,
+        entry: flat::zero_entry(),
+        utxo: 1,
+        expected: 0,
     };
-    entries[0] = held;
-    with_entries(p, entries)
+    put_held(p, MOST_REFERENCES - 1, held)
 }
 
-fn paid_to(p: Pool, address: u32, amount: u64) -> Pool {
-    let mut entries = p.entries;
-    let first = entries[0];
-    let entry = first.entry;
-    let reference = entry.reference;
-    let other = Entry {
-        reference,
-        address,
-        amount,
+fn payment_behind(p: Pool) -> Pool {
+    let payment = Payment {
+        transaction: chain::zero_transaction(),
+        pending: 1,
     };
-    let held = Held {
-        entry: other,
-        utxo: first.utxo,
-        expected: first.expected,
-    };
-    entries[0] = held;
-    with_entries(p, entries)
+    put_payment(p, MOST_PAYMENTS - 1, payment)
 }
 
 fn first_held(p: Pool) -> Held {
     let entries = p.entries;
     entries[0]
+}
+
+// The first entry with other marks, or with another address and amount.
+fn marked(p: Pool, utxo: u8, expected: u8) -> Pool {
+    let mut held = first_held(p);
+    held.utxo = utxo;
+    held.expected = expected;
+    put_held(p, 0, held)
+}
+
+fn paid_to(p: Pool, address: u32, amount: u64) -> Pool {
+    let mut held = first_held(p);
+    let mut entry = held.entry;
+    entry.address = address;
+    entry.amount = amount;
+    held.entry = entry;
+    put_held(p, 0, held)
 }
 
 // The first entry in both sets of the present state.
@@ -196,61 +142,42 @@ fn marked_over(p: Pool) -> Pool {
     marked(p, utxo, first.expected)
 }
 
-// The first payment with another transaction and mark.
 fn first_payment(p: Pool) -> Payment {
     let payments = p.payments;
     payments[0]
 }
 
-fn put_payment(p: Pool, transaction: Transaction, pending: u8) -> Pool {
-    let mut payments = p.payments;
-    let payment = Payment {
-        transaction,
-        pending,
-    };
-    payments[0] = payment;
-    with_payments(p, payments)
-}
-
+// The first payment without its mark, or without inputs.
 fn payment_unmarked(p: Pool) -> Pool {
-    let first = first_payment(p);
-    let transaction = first.transaction;
-    put_payment(p, transaction, 0)
+    let mut payment = first_payment(p);
+    payment.pending = 0;
+    put_payment(p, 0, payment)
 }
 
-// The first payment without inputs.
 fn payment_bare(p: Pool) -> Pool {
-    let first = first_payment(p);
-    let mut transaction = first.transaction;
+    let mut payment = first_payment(p);
+    let mut transaction = payment.transaction;
     transaction.takes = 0;
-    put_payment(p, transaction, first.pending)
+    payment.transaction = transaction;
+    put_payment(p, 0, payment)
 }
 
 // A transaction with its first output, or an unused place where it has none, over the limit.
 fn dear(t: Transaction) -> Transaction {
-    let number = t.number;
-    let inputs = t.inputs;
     let mut outputs = t.outputs;
-    let first = outputs[0];
-    let output = Output {
-        index: first.index,
-        address: first.address,
-        amount: LARGEST_AMOUNT + 1,
-    };
-    outputs[0] = output;
-    Transaction {
-        number,
-        inputs,
-        takes: t.takes,
-        outputs,
-        makes: t.makes,
-    }
+    let mut first = outputs[0];
+    first.amount = LARGEST_AMOUNT + 1;
+    outputs[0] = first;
+    let mut other = t;
+    other.outputs = outputs;
+    other
 }
 
 fn payment_dear(p: Pool) -> Pool {
-    let first = first_payment(p);
-    let transaction = first.transaction;
-    put_payment(p, dear(transaction), first.pending)
+    let mut payment = first_payment(p);
+    let transaction = payment.transaction;
+    payment.transaction = dear(transaction);
+    put_payment(p, 0, payment)
 }
 
 // The next number, where a number is an own address; it never comes near the end of its range.
@@ -276,13 +203,16 @@ fn not_own(p: Pool) -> u32 {
     address
 }
 
+// One count too large.
 fn counted_over(p: Pool, damage: u32) -> Pool {
+    let mut other = p;
     match damage {
-        1 => owning(p, MOST_OWN + 1),
-        2 => standing(p, MOST_STATES),
-        3 => using(p, MOST_REFERENCES + 1),
-        _ => paying(p, MOST_PAYMENTS + 1),
+        1 => other.owns = MOST_OWN + 1,
+        2 => other.below = MOST_STATES,
+        3 => other.used = MOST_REFERENCES + 1,
+        _ => other.paying = MOST_PAYMENTS + 1,
     }
+    other
 }
 
 fn first_entry_spoilt(p: Pool, damage: u32) -> Pool {

@@ -5,8 +5,8 @@ const LARGEST: u64 = 18_446_744_073_709_551_615;
 // The last number that has room for a further digit.
 const LAST: u64 = 1_844_674_407_370_955_161;
 
-// A line read so far: how many numbers were seen, the one that is asked for, how many stand before the arrow and before the
-// semicolon, and whether there was a minus.
+// A line read so far: how many numbers were seen, whether the last may go on, the one that is asked for, how many stand before
+// the arrow and before the semicolon, and whether there was a minus.
 pub(crate) struct Scan {
     pub seen: usize,
     pub inside: bool,

@@ -17,7 +17,6 @@ ghost use Prim.Native.Nat.{_<_};
 ghost use lib.ListN.{length};
 use libc::STDIN_FILENO;
 use line::behind;
-use line::number;
 
 mod build;
 mod calls;
@@ -39,15 +38,15 @@ fn room() -> [u8; MOST_INPUT]
     [0; MOST_INPUT]
 }
 
-// The place that a line names; the last for any that there is not.
+// The place that a line names; the first for any that there is not.
 fn place_in(text: &[u8], at: usize) -> usize
     ensures { λ r. ⌜ r < 8 ⌝ }
 {
-    let place = number(text, at, 1);
-    if place < 7 {
-        return place as usize;
+    let place = build::count_in(text, at, 1);
+    if place < PLACES {
+        return place;
     }
-    7
+    0
 }
 
 // All lines, one after another, each on what the one before it left.
