@@ -7,10 +7,10 @@ use crate::line::further;
 use crate::line::number;
 use crate::line::seen;
 use crate::say::moved;
-use crate::say::part;
 use crate::say::say;
 use crate::say::say_label;
 use crate::say::size;
+use crate::say::tell;
 use crate::say::verdict;
 use alike::same_wallet;
 use chain::Block;
@@ -22,55 +22,64 @@ use wallet::Listed;
 use wallet::Pending;
 use wallet::Wallet;
 
-// Whether a number that came is the one that a line has in a place.
-fn is_number(text: &[u8], at: usize, wanted: usize, came: u64) -> bool {
-    number(text, at, wanted) == came
+// Whether the numbers that came are the first of a line. One that a line does not have is 0.
+fn wanted(text: &[u8], at: usize, came: [u64; 4]) -> bool {
+    let mut ok = true;
+    let mut i = 0;
+    while i < 4 {
+        let here = number(text, at, i + 1) == came[i];
+        ok = ok & here;
+        i += 1;
+    }
+    ok
 }
 
-// The same of a movement, whose sign may be a minus.
-fn is_movement(text: &[u8], at: usize, wanted: usize, came: i64) -> bool {
-    let line = seen(text, at, wanted);
-    let below = came < 0;
-    (line.value == size(came)) & (line.minus == below)
+// Whether a line has the sign of a movement.
+fn signed(text: &[u8], at: usize, movement: i64) -> bool {
+    let line = seen(text, at, 0);
+    let below = movement < 0;
+    line.minus == below
 }
 
 // ? done ANSWER MOVEMENT
 fn done(text: &[u8], at: usize, desk: Desk) -> bool {
-    part(b": answer ", desk.answer as u64);
+    let answer = desk.answer as u64;
+    tell(b": answer #", [answer, 0, 0, 0]);
     moved(desk.movement);
-    let same = is_number(text, at, 1, desk.answer as u64);
-    same & is_movement(text, at, 2, desk.movement)
+    let came = [answer, size(desk.movement), 0, 0];
+    wanted(text, at, came) & signed(text, at, desk.movement)
 }
 
 // ? refused ANSWER: no movement, and the very wallet that came in
 fn refused(text: &[u8], at: usize, desk: Desk) -> bool {
+    let answer = desk.answer as u64;
     let same = same_wallet(desk.before, desk.wallet);
-    part(b": answer ", desk.answer as u64);
+    tell(b": answer #", [answer, 0, 0, 0]);
     moved(desk.movement);
     if same {
         say(b", wallet the same");
     }
-    let still = same & (desk.movement == 0);
-    still & is_number(text, at, 1, desk.answer as u64)
+    same & (desk.movement == 0) & wanted(text, at, [answer, 0, 0, 0])
 }
 
 // ? case ANSWER AVAILABLE TOTAL MOVEMENT
 fn case(text: &[u8], at: usize, desk: Desk) -> bool {
     let w = desk.wallet;
-    let free = w.available().amount;
-    let all = w.total().amount;
-    part(b": answer ", desk.answer as u64);
-    part(b", available ", free);
-    part(b", total ", all);
+    let came = [
+        desk.answer as u64,
+        w.available().amount,
+        w.total().amount,
+        size(desk.movement),
+    ];
+    tell(b": answer #, available #, total #", came);
     moved(desk.movement);
-    let step = is_number(text, at, 1, desk.answer as u64) & is_movement(text, at, 4, desk.movement);
-    step & is_number(text, at, 2, free) & is_number(text, at, 3, all)
+    wanted(text, at, came) & signed(text, at, desk.movement)
 }
 
 // ? available AMOUNT, and so total, held, unspent, expected and pending
 fn amount(text: &[u8], at: usize, came: u64) -> bool {
-    part(b": ", came);
-    is_number(text, at, 1, came)
+    tell(b": #", [came, 0, 0, 0]);
+    wanted(text, at, [came, 0, 0, 0])
 }
 
 // ? like PLACE: the very wallet that is kept there
@@ -92,13 +101,11 @@ fn first_of(list: Made) -> rules::Reference {
 fn only(text: &[u8], at: usize, came: Listed) -> bool {
     let list = came.list;
     let first = first_of(list);
-    let count = list.count as u64;
-    part(b": ", count);
-    part(b" entry, ", first.number.serial);
-    part(b".", first.index as u64);
-    let named = is_number(text, at, 1, first.number.serial);
-    let placed = is_number(text, at, 2, first.index as u64);
-    named & placed & (count == 1) & (came.answer == 0)
+    let serial = first.number.serial;
+    let index = first.index as u64;
+    tell(b": # entry, #.#", [list.count as u64, serial, index, 0]);
+    let one = (list.count == 1) & (came.answer == 0);
+    one & wanted(text, at, [serial, index, 0, 0])
 }
 
 fn only_of(text: &[u8], at: usize, w: Wallet) -> bool {
@@ -122,44 +129,36 @@ fn number_of(list: Block, place: usize) -> u64 {
 // ? numbers LOW HIGH: a list of two pending payments
 fn numbers(text: &[u8], at: usize, came: Pending) -> bool {
     let list = came.list;
-    let count = list.count as u64;
     let low = number_of(list, 0);
     let high = number_of(list, 1);
-    part(b": ", count);
-    part(b" payments, ", low);
-    part(b" and ", high);
-    let named = is_number(text, at, 1, low) & is_number(text, at, 2, high);
-    named & (count == 2) & (came.answer == 0)
+    tell(b": # payments, # and #", [list.count as u64, low, high, 0]);
+    let two = (list.count == 2) & (came.answer == 0);
+    two & wanted(text, at, [low, high, 0, 0])
 }
 
 // ? minimum AMOUNT PAYMENTS PENDING: the minimum, the fewest payments that reach it, and how many are pending
-fn least(text: &[u8], at: usize, came: Least, pending: u64) -> bool {
-    let payments = came.payments as u64;
-    part(b": ", came.amount);
-    part(b" with ", payments);
-    part(b" of ", pending);
-    say(b" payments");
-    let reached = is_number(text, at, 1, came.amount) & is_number(text, at, 2, payments);
-    reached & is_number(text, at, 3, pending) & (came.answer == 0)
+fn least(text: &[u8], at: usize, least: Least, pending: u64) -> bool {
+    let came = [least.amount, least.payments as u64, pending, 0];
+    tell(b": # with # of # payments", came);
+    wanted(text, at, came) & (least.answer == 0)
 }
 
 // ? balances AVAILABLE TOTAL MINIMUM PAYMENTS: what one call gives
-fn three(text: &[u8], at: usize, came: ThreeBalances) -> bool {
-    let payments = came.payments as u64;
-    part(b": available ", came.available);
-    part(b", total ", came.total);
-    part(b", minimum ", came.minimum);
-    part(b" with ", payments);
-    let others = is_number(text, at, 1, came.available) & is_number(text, at, 2, came.total);
-    let reached = is_number(text, at, 3, came.minimum) & is_number(text, at, 4, payments);
-    others & reached & (came.answer == 0)
+fn three(text: &[u8], at: usize, three: ThreeBalances) -> bool {
+    let came = [
+        three.available,
+        three.total,
+        three.minimum,
+        three.payments as u64,
+    ];
+    tell(b": available #, total #, minimum # with #", came);
+    wanted(text, at, came) & (three.answer == 0)
 }
 
 // ? sound: no call answers 9
 fn sound(w: Wallet) -> bool {
     let nines = std::num::wrapping_add_u64(steps(w).nines, queries(w).nines);
-    part(b": ", nines);
-    say(b" of 12 calls answered 9");
+    tell(b": # of 12 calls answered 9", [nines, 0, 0, 0]);
     nines == 0
 }
 
@@ -168,10 +167,10 @@ fn faulty(w: Wallet) -> bool {
     let stepped = steps(w);
     let queried = queries(w);
     let nines = std::num::wrapping_add_u64(stepped.nines, queried.nines);
-    part(b": ", nines);
-    part(b" of 12 calls answered 9, ", queried.still);
-    part(b" of 9 queries empty, ", stepped.still);
-    say(b" of 3 wallets the same");
+    tell(
+        b": # of 12 calls answered 9, # of 9 queries empty, # of 3 wallets the same",
+        [nines, queried.still, stepped.still, 0],
+    );
     (nines == 12) & (queried.still == 9) & (stepped.still == 3)
 }
 

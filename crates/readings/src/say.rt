@@ -18,18 +18,36 @@ pub(crate) fn size(n: i64) -> u64 {
     n as u64
 }
 
-// A part of a line: what it is, and its number.
-pub(crate) fn part(label: &[u8], n: u64) {
-    say(label);
-    io::print_decimal(STDOUT_FILENO, n);
+// A byte of a form; for a # the next of some numbers. Hands on which number is next.
+fn say_byte(byte: u8, numbers: [u64; 4], next: usize) -> usize {
+    if byte != b'#' {
+        let one = [byte];
+        say(&one);
+        return next;
+    }
+    if next < 4 {
+        io::print_decimal(STDOUT_FILENO, numbers[next]);
+    }
+    further(next, 1)
+}
+
+// A form, with numbers in the place of each #.
+pub(crate) fn tell(form: &[u8], numbers: [u64; 4]) {
+    let mut next = 0;
+    let mut i = 0;
+    while i < form.len() {
+        let after = say_byte(form[i], numbers, next);
+        next = after;
+        i += 1;
+    }
 }
 
 pub(crate) fn moved(n: i64) {
     if n < 0 {
-        part(b", moved -", size(n));
+        tell(b", moved -#", [size(n), 0, 0, 0]);
         return;
     }
-    part(b", moved ", size(n));
+    tell(b", moved #", [size(n), 0, 0, 0]);
 }
 
 // The bytes from one place to another, where there are such.
