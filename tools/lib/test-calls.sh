@@ -17,7 +17,7 @@ one_line() { # NAME STATUS BEGINNING
 calls() {
     local script each called
     for script in run second/build bench/run tools/inside tools/events tools/compare tools/try-edits tools/check-links \
-        tools/check-contracts tools/check-refusals tools/test-run tools/test-events tools/bodies.py; do
+        tools/check-contracts tools/check-refusals tools/cost tools/test-run tools/test-events tools/bodies.py; do
         each=$project/$script
         called=${script#tools/}
         try "$each" --no-such ''
