@@ -20,12 +20,9 @@ toldList sound list = cond sound (record { answer = 0; list = list }) (record { 
 abbrev pub toldPending : Bool → Block → Pending
 toldPending sound list = cond sound (record { answer = 0; list = list }) (record { answer = 9; list = blockOf [] })
 
--- a list that is told is the one that was worked out, by the test that was asked
-pub told-one : {r : Listed} {flag test : Bool} {list other : Made} → r ≡ toldList flag list → flag ≡ test → list ≡ other → r ≡ toldList test other
-told-one e f g = e ∙ (λ i. toldList (f i) (g i))
-
-pub told-pending-one : {r : Pending} {flag test : Bool} {list other : Block} → r ≡ toldPending flag list → flag ≡ test → list ≡ other → r ≡ toldPending test other
-told-pending-one e f g = e ∙ (λ i. toldPending (f i) (g i))
+-- what is told of a list is told of the one that it was worked out to be, by the test that was asked
+pub told-one : {A B : Type 0} (told : Bool → A → B) {r : B} {flag test : Bool} {list other : A} → r ≡ told flag list → flag ≡ test → list ≡ other → r ≡ told test other
+told-one told e f g = e ∙ (λ i. told (f i) (g i))
 
 same-where : (test : Bool) (n m : ℕ) → (T test → n ≡ m) → toldAmount test n ≡ toldAmount test m
 same-where true n m f = ap (toldAmount true) (f tt)

@@ -1,5 +1,5 @@
 -- The present pending payments, where the wallet is sound.
-use Rattle.wallet.specs.Told.{told-pending-one}
+use Rattle.wallet.specs.Told.{told-one, toldPending}
 use borrow.Author.Needs.{needs}
 use Rattle.wallet.proofs.Wallet.pending_list.Statement.{statement}
 use Rattle.wallet.proofs.Wallet.pending_list.Tie as tie
@@ -15,7 +15,7 @@ told-pending-requires c κs = search needs
 
 returns : tie.Need-returns
 returns c =
-    told-pending-one (c .told-pending .ensures) (c .before .before .good-pool .ensures) (c .before .pending-block .ensures)
+    told-one toldPending (c .told-pending .ensures) (c .before .before .good-pool .ensures) (c .before .pending-block .ensures)
 
 pub pending-list-spec : {M : Type 1} → statement M
 pending-list-spec =

@@ -1,5 +1,5 @@
 -- The present unspent outputs, where the wallet is sound.
-use Rattle.wallet.specs.Told.{told-one}
+use Rattle.wallet.specs.Told.{told-one, toldList}
 use borrow.Author.Needs.{needs}
 use Rattle.wallet.proofs.Wallet.utxo_list.Statement.{statement}
 use Rattle.wallet.proofs.Wallet.utxo_list.Tie as tie
@@ -15,7 +15,7 @@ told-list-requires c κs = search needs
 
 returns : tie.Need-returns
 returns c =
-    told-one (c .told-list .ensures) (c .before .before .good-pool .ensures) (c .before .utxo-of .ensures)
+    told-one toldList (c .told-list .ensures) (c .before .before .good-pool .ensures) (c .before .utxo-of .ensures)
 
 pub utxo-list-spec : {M : Type 1} → statement M
 utxo-list-spec =
