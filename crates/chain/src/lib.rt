@@ -11,7 +11,7 @@ use rules::{
 };
 
 // A transaction takes the first `takes` inputs and makes the first `makes` outputs; the other places are zero.
-#[derive(Drop)]
+#[derive(Clone, Copy)]
 pub struct Transaction {
     pub number: Number,
     pub inputs: [Reference; MOST_INPUTS],
@@ -21,7 +21,7 @@ pub struct Transaction {
 }
 
 // A block has the first `count` transactions; the other places are zero.
-#[derive(Drop)]
+#[derive(Clone, Copy)]
 pub struct Block {
     pub transactions: [Transaction; MOST_TRANSACTIONS],
     pub count: usize,

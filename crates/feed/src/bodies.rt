@@ -22,26 +22,26 @@ pub(crate) const PAY_KIND: u8 = 3;
 pub(crate) const BACK_KIND: u8 = 4;
 
 // Own addresses: the first `count` places; the other places are zero.
-#[derive(Drop)]
+#[derive(Clone, Copy)]
 pub struct Own {
     pub addresses: [u32; MOST_OWN],
     pub count: usize,
 }
 
-#[derive(Drop)]
+#[derive(Clone, Copy)]
 pub struct OwnRead {
     pub answer: Answer,
     pub own: Own,
 }
 
-#[derive(Drop)]
+#[derive(Clone, Copy)]
 pub struct BlockRead {
     pub answer: Answer,
     pub block: Block,
 }
 
 // What a body is, or a fault's place.
-#[derive(Drop)]
+#[derive(Clone, Copy)]
 pub enum Body {
     Own,
     Block,
@@ -51,7 +51,7 @@ pub enum Body {
 }
 
 // A body's reading: what does not apply is zero.
-#[derive(Drop)]
+#[derive(Clone, Copy)]
 pub struct BodyRead {
     pub body: Body,
     pub own: Own,

@@ -20,7 +20,7 @@ pub(crate) const AMOUNT_WIDTH: usize = 8;
 pub(crate) const NUMBER_WIDTH: usize = 8;
 
 // A field's reading: a number with the next place, or a fault's place.
-#[derive(Drop)]
+#[derive(Clone, Copy)]
 pub enum Field {
     Number(u64, usize),
     Fault(usize),

@@ -15,37 +15,37 @@ use chain::{zero_output, zero_reference};
 use rules::{LARGEST_AMOUNT, MOST_INPUTS, MOST_OUTPUTS, MOST_OWN, Output, Reference};
 
 // A reading's answer: the next place, or a fault's place.
-#[derive(Drop)]
+#[derive(Clone, Copy)]
 pub enum Answer {
     Read(usize),
     Fault(usize),
 }
 
-#[derive(Drop)]
+#[derive(Clone, Copy)]
 pub struct InputRead {
     pub answer: Answer,
     pub input: Reference,
 }
 
-#[derive(Drop)]
+#[derive(Clone, Copy)]
 pub struct InputsRead {
     pub answer: Answer,
     pub inputs: [Reference; MOST_INPUTS],
 }
 
-#[derive(Drop)]
+#[derive(Clone, Copy)]
 pub struct OutputRead {
     pub answer: Answer,
     pub output: Output,
 }
 
-#[derive(Drop)]
+#[derive(Clone, Copy)]
 pub struct OutputsRead {
     pub answer: Answer,
     pub outputs: [Output; MOST_OUTPUTS],
 }
 
-#[derive(Drop)]
+#[derive(Clone, Copy)]
 pub struct AddressesRead {
     pub answer: Answer,
     pub addresses: [u32; MOST_OWN],

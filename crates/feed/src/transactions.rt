@@ -12,13 +12,13 @@ use crate::items::{Answer, read_inputs, read_outputs};
 use chain::{Transaction, zero_number, zero_transaction};
 use rules::{MOST_INPUTS, MOST_OUTPUTS, MOST_TRANSACTIONS, Number};
 
-#[derive(Drop)]
+#[derive(Clone, Copy)]
 pub struct TransactionRead {
     pub answer: Answer,
     pub transaction: Transaction,
 }
 
-#[derive(Drop)]
+#[derive(Clone, Copy)]
 pub struct TransactionsRead {
     pub answer: Answer,
     pub transactions: [Transaction; MOST_TRANSACTIONS],

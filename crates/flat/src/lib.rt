@@ -15,19 +15,19 @@ pub use crate::lists::{held_refs, made_refs, own_of};
 pub use crate::seek::{sought, turn};
 
 // References, entries, or places in another array: the first `count`, and zeros behind.
-#[derive(Drop)]
+#[derive(Clone, Copy)]
 pub struct Refs {
     pub refs: [Reference; MOST_REFERENCES],
     pub count: usize,
 }
 
-#[derive(Drop)]
+#[derive(Clone, Copy)]
 pub struct Made {
     pub entries: [Entry; MOST_REFERENCES],
     pub count: usize,
 }
 
-#[derive(Drop)]
+#[derive(Clone, Copy)]
 pub struct Places {
     pub at: [usize; MOST_REFERENCES],
     pub count: usize,

@@ -15,7 +15,7 @@ mod text;
 pub const MOST_SHEET: usize = 24_112;
 
 // A line of the sheet: the event's row from 1, its kind, the answer, the three balances after it, the movement.
-#[derive(Drop)]
+#[derive(Clone, Copy)]
 pub struct Line {
     pub row: usize,
     pub kind: u8,
@@ -27,7 +27,7 @@ pub struct Line {
 }
 
 // What `sheet_of` hands back: 0 and how many bytes it wrote; 10 and 0 for a buffer that is too short.
-#[derive(Drop)]
+#[derive(Clone, Copy)]
 pub struct Written {
     pub answer: u32,
     pub length: usize,

@@ -18,7 +18,7 @@ use rules::{
 use tables::Bring;
 
 // Whether a payment brings a number's entries for certain, and whether it does unless the number's payment is chosen.
-#[derive(Drop)]
+#[derive(Clone, Copy)]
 pub(crate) struct Marks {
     pub hard: bool,
     pub soft: bool,

@@ -15,7 +15,7 @@ use rules::{MOST_PAYMENTS, MOST_REFERENCES};
 use tables::{Bring, Row};
 
 // Settled tables: the rows, and the brings that are left, the first `count`.
-#[derive(Drop)]
+#[derive(Clone, Copy)]
 pub(crate) struct Settled {
     pub rows: [Row; MOST_PAYMENTS],
     pub brings: [Bring; MOST_REFERENCES],
@@ -23,7 +23,7 @@ pub(crate) struct Settled {
 }
 
 // The brings that are left.
-#[derive(Drop)]
+#[derive(Clone, Copy)]
 pub(crate) struct Kept {
     pub brings: [Bring; MOST_REFERENCES],
     pub count: usize,

@@ -11,7 +11,7 @@ use rules::{MOST_INPUTS, MOST_PAYMENTS, MOST_REFERENCES, Reference};
 
 // An input: its reference, its worth (0 where it stands nowhere), and whether it stands in the UTxO, in expected, and
 // among the outputs of pending payments.
-#[derive(Drop)]
+#[derive(Clone, Copy)]
 pub(crate) struct Input {
     pub reference: Reference,
     pub amount: u64,
@@ -21,14 +21,14 @@ pub(crate) struct Input {
 }
 
 // The inputs of a payment: the first `count`.
-#[derive(Drop)]
+#[derive(Clone, Copy)]
 pub(crate) struct Taking {
     pub inputs: [Input; MOST_INPUTS],
     pub count: usize,
 }
 
 // Of each of some references, whether it stands in a list of entries and the amount under it there.
-#[derive(Drop)]
+#[derive(Clone, Copy)]
 pub(crate) struct Standing {
     pub here: [bool; MOST_REFERENCES],
     pub amounts: [u64; MOST_REFERENCES],

@@ -4,7 +4,7 @@ use chain::Transaction;
 use rules::{Entry, MOST_OWN, MOST_PAYMENTS, MOST_REFERENCES};
 
 // An entry with the held states in whose UTxO and expected sets it stands.
-#[derive(Drop)]
+#[derive(Clone, Copy)]
 pub struct Held {
     pub entry: Entry,
     pub utxo: u8,
@@ -12,7 +12,7 @@ pub struct Held {
 }
 
 // A payment with the held states in whose pending sets it stands.
-#[derive(Drop)]
+#[derive(Clone, Copy)]
 pub struct Payment {
     pub transaction: Transaction,
     pub pending: u8,
@@ -20,7 +20,7 @@ pub struct Payment {
 
 // The first `owns` own addresses, the first `used` entries by reference, the first `paying` payments by number, and how
 // many states lie below the present one. The other places are zero.
-#[derive(Drop)]
+#[derive(Clone, Copy)]
 pub struct Pool {
     pub own: [u32; MOST_OWN],
     pub owns: usize,

@@ -6,7 +6,7 @@ use rules::MOST_OWN;
 use wallet::{Step, Wallet};
 
 // The wallet after an event, how its body was read (0, or 1 for a fault), the fault's place, and the event's answer.
-#[derive(Drop)]
+#[derive(Clone, Copy)]
 pub(crate) struct Told {
     pub wallet: Wallet,
     pub reading: u32,

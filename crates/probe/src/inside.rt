@@ -11,7 +11,7 @@ use wallet::Wallet;
 const LAST_DAMAGE: u32 = 17;
 
 // Where the text of all events ends, and the wallet after them.
-#[derive(Drop)]
+#[derive(Clone, Copy)]
 struct After {
     at: usize,
     wallet: Wallet,

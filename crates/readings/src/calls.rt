@@ -5,7 +5,7 @@ use minimum::{Least, ThreeBalances};
 use wallet::{Amount, Listed, Pending, Step, Wallet};
 
 // How many calls answered 9, and how many had nothing else to say: no movement and the same wallet, no amount, no list.
-#[derive(Drop)]
+#[derive(Clone, Copy)]
 pub(crate) struct Tally {
     pub nines: u64,
     pub still: u64,

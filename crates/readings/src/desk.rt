@@ -12,7 +12,7 @@ use wallet::{Step, Wallet};
 const MOST_NAMED: usize = 33;
 
 // A wallet, and what the last step answered and moved on the wallet before it.
-#[derive(Drop)]
+#[derive(Clone, Copy)]
 pub(crate) struct Desk {
     pub wallet: Wallet,
     pub before: Wallet,

@@ -7,7 +7,7 @@ const LAST: u64 = 1_844_674_407_370_955_161;
 
 // A line read so far: how many numbers were seen, whether the last may go on, the one that is asked for, how many stand before
 // the arrow and before the semicolon, and whether there was a minus.
-#[derive(Drop)]
+#[derive(Clone, Copy)]
 pub(crate) struct Scan {
     pub seen: usize,
     pub inside: bool,

@@ -2,20 +2,20 @@
 // the rules themselves are in specs/.
 
 // A transaction number. Nothing but its own two tests, same_number and before_number, looks inside.
-#[derive(Drop)]
+#[derive(Clone, Copy)]
 pub struct Number {
     pub serial: u64,
 }
 
 // Which output of which transaction.
-#[derive(Drop)]
+#[derive(Clone, Copy)]
 pub struct Reference {
     pub number: Number,
     pub index: u16,
 }
 
 // What a transaction pays out: its place among the outputs, to whom, and how many lovelace.
-#[derive(Drop)]
+#[derive(Clone, Copy)]
 pub struct Output {
     pub index: u16,
     pub address: u32,
@@ -23,7 +23,7 @@ pub struct Output {
 }
 
 // An output that stands in a set, under its reference.
-#[derive(Drop)]
+#[derive(Clone, Copy)]
 pub struct Entry {
     pub reference: Reference,
     pub address: u32,

@@ -324,7 +324,7 @@ module _ {A : Type 0} where
       let r = map_elim (λ (d : List A). y ∷ d) (choices l) k in
       ⊎_elim
       (λ (e : x ≡ y). mathlib.Core.List.Memᴰ.head e)
-      (λ (g : Memᴰ x r.0). mathlib.Core.List.Memᴰ.tail (choices_from l r.1 g))
+      (λ (g : Memᴰ x r.0). mathlib.Core.List.Memᴰ.tail (choices_from {c = r.0} l r.1 g))
       (mathlib.Core.List.Memᴰ.cases_cons (subst (λ (d : List A). Memᴰ x d) r.2 h)))
       (λ (k : Memᴰ c (choices l)). mathlib.Core.List.Memᴰ.tail (choices_from l k h))
       (mathlib.Core.List.Memᴰ.append_cases (map (λ d. y ∷ d) (choices l)) k₀)

@@ -2,7 +2,7 @@
 // pending payments is a mark word over them, and so is every word in the tables.
 
 // Of a pending payment: what it takes and adds, the payments it cannot go with, and the payments it cannot go without.
-#[derive(Drop)]
+#[derive(Clone, Copy)]
 pub struct Row {
     pub takes: u64,
     pub adds: u64,
@@ -12,7 +12,7 @@ pub struct Row {
 
 // Of an expected entry: its amount; the payments that bring it for certain, and those that bring it unless its owner is
 // chosen; the payment of its number, and the payment that makes it.
-#[derive(Drop)]
+#[derive(Clone, Copy)]
 pub struct Bring {
     pub amount: u64,
     pub hard: u32,

@@ -1,7 +1,7 @@
 // The walk over the choices of payments, proved to find the least in specs/. Here is what it finds.
 
 // The least amount found so far, with the number of payments that are chosen for it.
-#[derive(Drop)]
+#[derive(Clone, Copy)]
 pub struct Best {
     pub amount: u64,
     pub count: u32,

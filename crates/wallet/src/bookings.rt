@@ -17,7 +17,7 @@ use pool::{Held, Payment, Pool};
 use rules::{MOST_OWN, MOST_PAYMENTS, MOST_REFERENCES, MOST_STATES};
 
 // A pool after a block, and whether it had room; where it had none, the pool as it was.
-#[derive(Drop)]
+#[derive(Clone, Copy)]
 pub(crate) struct Next {
     pub fits: bool,
     pub pool: Pool,

@@ -19,13 +19,13 @@ mod queries;
 mod tests;
 
 // A wallet: see the pool for how it is laid out.
-#[derive(Drop)]
+#[derive(Clone, Copy)]
 pub struct Wallet {
     pub pool: Pool,
 }
 
 // What a step hands back: the wallet, the paper's answer, and how far the available balance moved.
-#[derive(Drop)]
+#[derive(Clone, Copy)]
 pub struct Step {
     pub wallet: Wallet,
     pub answer: u32,
@@ -33,19 +33,19 @@ pub struct Step {
 }
 
 // What a query hands back: an amount or a count, or a list, with the paper's answer.
-#[derive(Drop)]
+#[derive(Clone, Copy)]
 pub struct Amount {
     pub answer: u32,
     pub amount: u64,
 }
 
-#[derive(Drop)]
+#[derive(Clone, Copy)]
 pub struct Listed {
     pub answer: u32,
     pub list: Made,
 }
 
-#[derive(Drop)]
+#[derive(Clone, Copy)]
 pub struct Pending {
     pub answer: u32,
     pub list: Block,
