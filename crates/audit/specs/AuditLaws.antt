@@ -131,19 +131,19 @@ module _ (w : Pool) where
       let l = laid_out_facts w t in
       let s = every_facts (sound_tests w) u in (
         every_holds (entries_list w) (
-          le→leb w.owns most_own l.few-own,
+          le→leb w.owns most_own l.few_own,
           (
-            le→leb w.used most_references l.few-entries,
+            le→leb w.used most_references l.few_entries,
             (
-              le→leb w.below (most_states - 1) l.few-below,
+              le→leb w.below (most_states - 1) l.few_below,
               (
                 s.0,
                 (
-                  l.own-rest,
+                  l.own_rest,
                   (
-                    l.entries-rest,
+                    l.entries_rest,
                     (
-                      l.entries-ascend,
+                      l.entries_ascend,
                       (
                         subst (λ (b : Bool). T b) (sym (all_held (suc w.below) (take w.owns w.own) (entries_of w)))
                             (every_holds (held_tests (suc w.below) (take w.owns w.own) (entries_of w)) (l.entries_fit, (s.1.0, (s.1.1.0, (s.1.1.1.0, tt))))),
@@ -157,23 +157,23 @@ module _ (w : Pool) where
           ),
         ),
         every_holds (payments_list w) (
-          le→leb w.paying most_payments l.few-payments,
+          le→leb w.paying most_payments l.few_payments,
           (
-            le→leb w.below (most_states - 1) l.few-below,
+            le→leb w.below (most_states - 1) l.few_below,
             (
-              l.payments-rest,
+              l.payments_rest,
               (
-                l.payments-ascend,
+                l.payments_ascend,
                 (
                   subst (λ (b : Bool). T b) (sym (all_payments (suc w.below) (payments_of w)))
-                      (every_holds (paid_tests (suc w.below) (payments_of w)) (l.payments-fit, (s.1.1.1.1.0, tt))),
+                      (every_holds (paid_tests (suc w.below) (payments_of w)) (l.payments_fit, (s.1.1.1.1.0, tt))),
                   tt,
                 ),
               ),
             ),
           ),
         ),
-        subst (λ (b : Bool). T b) (sym (all_agree_first (entries_of w) (payments_make w) l.entries-ascend)) s.1.1.1.1.1.0,
+        subst (λ (b : Bool). T b) (sym (all_agree_first (entries_of w) (payments_make w) l.entries_ascend)) s.1.1.1.1.1.0,
       )
 
   from_parts : length w.own ≡ most_own → length w.entries ≡ most_references → length w.payments ≡ most_payments → Parts → T (laid_out w) × T (pool_sound w)

@@ -67,7 +67,7 @@ module _ (w : Pool) (t : T (good w)) where
       (keep_from (λ x. not (has same_reference x.reference (spent (view w).present.pending))) (view w).present.utxo m)))
 
   pending_shaped : (p : Chain.Transaction) → Memᴰ p (pending_at 0 (payments_of w)) → T (shaped_transaction p)
-  pending_shaped p m = (good_sound w t).payments-shaped p (gather_intro (λ (s : State). s.pending) {l = states (view w)} (Memᴰ.head refl) m)
+  pending_shaped p m = (good_sound w t).payments_shaped p (gather_intro (λ (s : State). s.pending) {l = states (view w)} (Memᴰ.head refl) m)
 
   change_within : (e : Entry) → Memᴰ e (change_of w) → e.amount ≤ largest_amount
   change_within e m =

@@ -38,7 +38,7 @@ available_once : (w : Pool) → T (laid_out w) → once same_entry (available (v
 available_once w t =
     ascending-once before_entry before_entry_trans before_entry_irrefl same_entry before_entry_never (available (view w).present)
     (subst (λ (l : List Entry). T (ascending before_entry l)) (sym (available_places w))
-    (pick_ascending (λ (h : Held). h.entry) before_entry before_entry_trans (is_available (payments_of w)) (entries_of w) (laid_out_facts w t).entries-ascend))
+    (pick_ascending (λ (h : Held). h.entry) before_entry before_entry_trans (is_available (payments_of w)) (entries_of w) (laid_out_facts w t).entries_ascend))
 
 change_once : (own : List ℕ) (s : State) → T (ascending before_entry (made s.pending)) → once same_entry (change own s) ≡ change own s
 unfolding change
@@ -50,8 +50,8 @@ change_once own s t =
 pending_made_ascending : (w : Pool) → T (good w) → T (ascending before_entry (made (pending_at 0 (payments_of w))))
 pending_made_ascending w t =
     let k = good_sound w t in
-    made_ascending (pending_at 0 (payments_of w)) (k.pending-ascending (view w).present (Memᴰ.head refl))
-    (λ u m. k.payments-shaped u (held_pending (view w) (Memᴰ.head refl) m))
+    made_ascending (pending_at 0 (payments_of w)) (k.pending_ascending (view w).present (Memᴰ.head refl))
+    (λ u m. k.payments_shaped u (held_pending (view w) (Memᴰ.head refl) m))
 
 change_new :
     (own : List ℕ) (w : Pool) →

@@ -82,14 +82,14 @@ entries_after_ascend outputs gone es s t =
 pub block_entries_ascend : (w : Pool) (b : Chain.Block) → T (good w) → T (shaped_block b) → T (ascending before_held (entries_booked w b))
 block_entries_ascend w b g h =
     entries_after_ascend (own_made (take w.owns w.own) b) (spent b) (entries_of w)
-    (own_made_ascending (take w.owns w.own) b h) (good_layout w g).entries-ascend
+    (own_made_ascending (take w.owns w.own) b h) (good_layout w g).entries_ascend
 
 -- the payments after a block ascend by number
 pub block_payments_ascend : (w : Pool) (b : Chain.Block) → T (good w) → T (ascending before_payment (payments_booked w b))
 unfolding payments_after_block
 block_payments_ascend w b g =
     ascending-keep before_payment before_payment_trans payment_marked (map (payment_after_block (spent b)) (payments_of w))
-    (ascending_mapped before_payment before_payment (payment_after_block (spent b)) (λ x y h. h) (payments_of w) (good_layout w g).payments-ascend)
+    (ascending_mapped before_payment before_payment (payment_after_block (spent b)) (λ x y h. h) (payments_of w) (good_layout w g).payments_ascend)
 
 -- ── marks
 
@@ -140,7 +140,7 @@ entries_after_fit outputs gone es n h t =
 -- each entry after a block has a mark, and none above the states held then
 pub block_entries_fit : (w : Pool) (b : Chain.Block) → T (good w) → T (all (held_fits (suc (below_booked w))) (entries_booked w b))
 block_entries_fit w b g =
-    entries_after_fit (own_made (take w.owns w.own) b) (spent b) (entries_of w) w.below (good_layout w g).few-below (good_layout w g).entries_fit
+    entries_after_fit (own_made (take w.owns w.own) b) (spent b) (entries_of w) w.below (good_layout w g).few_below (good_layout w g).entries_fit
 
 payment_within :
     (gone : List Reference) (n : ℕ) (p : Payment) → n ≤ 7 → T (payment_fits (suc n) p) →
@@ -161,5 +161,5 @@ block_payments_fit w b g =
     (λ x m.
     let p = map_elim (payment_after_block (spent b)) (payments_of w) (keep_from payment_marked after m) in
     subst (λ (v : Payment). T (payment_fits top v)) (sym p.2)
-    (payment_within (spent b) w.below p.0 (good_layout w g).few-below (all_elim (payment_fits (suc w.below)) (good_layout w g).payments-fit p.1)
+    (payment_within (spent b) w.below p.0 (good_layout w g).few_below (all_elim (payment_fits (suc w.below)) (good_layout w g).payments_fit p.1)
     (subst (λ (v : Payment). T (payment_marked v)) p.2 (keep_holds payment_marked after m))))

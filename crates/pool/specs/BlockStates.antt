@@ -287,5 +287,5 @@ module _
         (utxo_ascending 0 (entries_booked w b) (block_entries_ascend w b sound_before shaped))
         (ascending-keep before_entry before_entry_trans stays (with_entries (utxo_at 0 es) outputs)
         (together-ascending before_entry before_entry_trans same_entry (utxo_at 0 es) outputs (λ x y m n d. before_entry_one x y d)
-        (utxo_ascending 0 es (good_layout w sound_before).entries-ascend)))
+        (utxo_ascending 0 es (good_layout w sound_before).entries_ascend)))
         utxo_sound utxo_whole

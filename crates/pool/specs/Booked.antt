@@ -55,10 +55,10 @@ payment_room w g t s free =
     in
     ap too_many (sym (payment_view w h t free))
     ∙ pool_room (take w.owns w.own) w.below (entries_of w) (payments_after_payment t (payments_of w))
-    f.entries-ascend f.entries_fit (payment_ascending w h t free) (payment_places_fit w h t (good_facts t s).0)
+    f.entries_ascend f.entries_fit (payment_ascending w h t free) (payment_places_fit w h t (good_facts t s).0)
     ∙ ap (λ (n : ℕ). not (leb n most_payments) || not (leb (length (entries_of w)) most_references)) one_more
     ∙ enough (not (leb (suc w.paying) most_payments)) (leb (length (entries_of w)) most_references)
-    (le→leb (length (entries_of w)) most_references (omega (arith, entries_counted w f, f.few-entries)))
+    (le→leb (length (entries_of w)) most_references (omega (arith, entries_counted w f, f.few_entries)))
   where
     enough : (a b : Bool) → T b → (a || not b) ≡ a
     enough true b t = refl
@@ -76,10 +76,10 @@ pub block_good : (w : Pool) (b : Chain.Block) → T (good w) → AcceptedBlock (
 block_good w b g k =
     let room =
     none_failed (leb (length (payments_booked w b)) most_payments) (leb (length (entries_booked w b)) most_references)
-    (subst (λ (c : Bool). T (not c)) (block_room w b g k.shaped k.made-new k.consistent) k.room)
+    (subst (λ (c : Bool). T (not c)) (block_room w b g k.shaped k.made_new k.consistent) k.room)
     in
     shown_good (book_block w b) (after_block (view w) b)
-    (block_booked w b g k.shaped k.made-new k.consistent
+    (block_booked w b g k.shaped k.made_new k.consistent
     (leb→le (length (entries_booked w b)) most_references room.1)
     (leb→le (length (payments_booked w b)) most_payments room.0))
     (block_sound (view w) b k)
@@ -91,17 +91,17 @@ pub payment_good :
 payment_good w g t s k =
     let few : suc w.paying ≤ most_payments =
     leb→le (suc w.paying) most_payments
-    (not_not (leb (suc w.paying) most_payments) (subst (λ (c : Bool). T (not c)) (payment_room w g t s k.number-new) k.room))
+    (not_not (leb (suc w.paying) most_payments) (subst (λ (c : Bool). T (not c)) (payment_room w g t s k.number_new) k.room))
     in
     shown_good (book_payment w t) (after_payment (view w) (view_transaction t))
-    (payment_booked w g t s k.number-new (omega (arith, payment_length t (payments_of w), payments_counted w (good_layout w g))))
+    (payment_booked w g t s k.number_new (omega (arith, payment_length t (payments_of w), payments_counted w (good_layout w g))))
     (payment_sound (view w) (view_transaction t) k)
 
 -- an accepted rollback: the booked pool is good, and shows the rules' wallet after the rollback
 pub rollback_good : (w : Pool) → T (good w) → AcceptedRollback (view w) → (view (book_rollback w) ≡ after_rollback (view w)) × T (good (book_rollback w))
 rollback_good w g k =
-    let r = some_below w.below (subst (λ (c : Bool). T (not c)) (only_one_lem w) k.more-than-one) in
-    shown_good (book_rollback w) (after_rollback (view w)) (rollback_booked w g r.0 r.1) (rollback_sound (view w) k.sound-before)
+    let r = some_below w.below (subst (λ (c : Bool). T (not c)) (only_one_lem w) k.more_than_one) in
+    shown_good (book_rollback w) (after_rollback (view w)) (rollback_booked w g r.0 r.1) (rollback_sound (view w) k.sound_before)
   where
     some_below : (n : ℕ) → T (not (eqb n 0)) → (m : ℕ) × (n ≡ suc m)
     some_below zero t = absurd t

@@ -81,33 +81,33 @@ pub facts_laid_out : (w : Pool) → LaidOut w → T (laid_out w)
 unfolding laid_out
 facts_laid_out w k =
     every_holds (clauses w) (
-      equal_holds (length w.own) most_own k.own-length,
+      equal_holds (length w.own) most_own k.own_length,
       (
-        le→leb w.owns most_own k.few-own,
+        le→leb w.owns most_own k.few_own,
         (
-          k.own-rest,
+          k.own_rest,
           (
-            le→leb w.below (most_states - 1) k.few-below,
+            le→leb w.below (most_states - 1) k.few_below,
             (
-              equal_holds (length w.entries) most_references k.entries-length,
+              equal_holds (length w.entries) most_references k.entries_length,
               (
-                le→leb w.used most_references k.few-entries,
+                le→leb w.used most_references k.few_entries,
                 (
-                  k.entries-rest,
+                  k.entries_rest,
                   (
-                    k.entries-ascend,
+                    k.entries_ascend,
                     (
                       k.entries_fit,
                       (
-                        equal_holds (length w.payments) most_payments k.payments-length,
+                        equal_holds (length w.payments) most_payments k.payments_length,
                         (
-                          le→leb w.paying most_payments k.few-payments,
+                          le→leb w.paying most_payments k.few_payments,
                           (
-                            k.payments-rest,
+                            k.payments_rest,
                             (
-                              k.payments-ascend,
+                              k.payments_ascend,
                               (
-                                k.payments-fit,
+                                k.payments_fit,
                                 tt,
                               ),
                             ),
@@ -169,10 +169,10 @@ good_sound w t = sound_facts (view w) (good_view w t)
 
 -- as many used places as the counts say
 pub entries_counted : (w : Pool) → LaidOut w → length (entries_of w) ≡ w.used
-entries_counted w f = length-take-le w.used w.entries (omega (arith, f.entries-length, f.few-entries))
+entries_counted w f = length-take-le w.used w.entries (omega (arith, f.entries_length, f.few_entries))
 
 pub payments_counted : (w : Pool) → LaidOut w → length (payments_of w) ≡ w.paying
-payments_counted w f = length-take-le w.paying w.payments (omega (arith, f.payments-length, f.few-payments))
+payments_counted w f = length-take-le w.paying w.payments (omega (arith, f.payments_length, f.few_payments))
 
 -- ── a pool with other places
 
@@ -202,9 +202,9 @@ pool_laid_out w n es ps t below few order fit few-paid order-paid fit-paid =
     let e = sym (filled_first most_references zero_held es) in
     let p = sym (filled_first most_payments zero_payment ps) in
     facts_laid_out (with_pool w n es ps) (record {
-      own_length = f.own-length;
-      few_own = f.few-own;
-      own_rest = f.own-rest;
+      own_length = f.own_length;
+      few_own = f.few_own;
+      own_rest = f.own_rest;
       few_below = below;
       entries_length = filled-length most_references zero_held es few;
       few_entries = few;

@@ -41,7 +41,7 @@ number_new :
     T (same_number n p.transaction.number) → ⊥
 number_new w t n free p m s =
     not_pending (view w) n free (view_transaction p.transaction)
-    (place_payment_held (take w.owns w.own) w.below (entries_of w) (payments_of w) (laid_out_facts w t).payments-fit m)
+    (place_payment_held (take w.owns w.own) w.below (entries_of w) (payments_of w) (laid_out_facts w t).payments_fit m)
     (same_number_eq n p.transaction.number s)
 
 -- the payments still ascend
@@ -54,7 +54,7 @@ payment_ascending w h t free =
     (λ p m.
     before_transaction_one (view_transaction t) (view_transaction p.transaction)
     (λ (s : T (same_number t.number p.transaction.number)). number_new w h t.number free p m s))
-    (laid_out_facts w h).payments-ascend
+    (laid_out_facts w h).payments_ascend
 
 -- they fit as many states as before
 pub payment_places_fit :
@@ -66,7 +66,7 @@ payment_places_fit w h t g =
     (λ p m.
     ⊎_elim
     (λ (e : p ≡ new). subst (λ (q : Payment). T (payment_fits (suc w.below) q)) (sym e) new_fits)
-    (λ (k : Memᴰ p (payments_of w)). all_elim (payment_fits (suc w.below)) (laid_out_facts w h).payments-fit k)
+    (λ (k : Memᴰ p (payments_of w)). all_elim (payment_fits (suc w.below)) (laid_out_facts w h).payments_fit k)
     (place_from before_payment (payments_of w) m))
   where
     new : Payment
@@ -120,7 +120,7 @@ pub payment_view :
     view_of (take w.owns w.own) w.below (entries_of w) (payments_after_payment t (payments_of w)) ≡ after_payment (view w) (view_transaction t)
 unfolding after_payment
 payment_view w h t free =
-    let p = pending_now t (payments_of w) (laid_out_facts w h).payments-ascend (number_new w h t.number free) in
+    let p = pending_now t (payments_of w) (laid_out_facts w h).payments_ascend (number_new w h t.number free) in
     let b = states_below 0 w.below (entries_of w) t (payments_of w) in
     λ i.
     record {
@@ -140,9 +140,9 @@ payment_booked w g t s free room =
     let f = laid_out_facts w h in (
       pool_view w w.below (entries_of w) (payments_after_payment t (payments_of w)) ∙ payment_view w h t free,
       pool_laid_out w w.below (entries_of w) (payments_after_payment t (payments_of w)) h
-          f.few-below
-          (omega (arith, entries_counted w f, f.few-entries))
-          f.entries-ascend
+          f.few_below
+          (omega (arith, entries_counted w f, f.few_entries))
+          f.entries_ascend
           f.entries_fit
           room
           (payment_ascending w h t free)

@@ -57,7 +57,7 @@ pub number_taken_lem :
 unfolding number_taken
 number_taken_lem w t n =
     let p : any (λ p. same_number n p.number) (held_payments (view w)) ≡ any (λ p. same_number n p.transaction.number) (payments_of w) =
-    any_payment (take w.owns w.own) w.below (entries_of w) (payments_of w) (laid_out_facts w t).payments-fit (λ p. same_number n p.number)
+    any_payment (take w.owns w.own) w.below (entries_of w) (payments_of w) (laid_out_facts w t).payments_fit (λ p. same_number n p.number)
     in
     let e : any (λ e. same_number n e.reference.number) (held_entries (view w)) ≡ any (λ h. same_number n h.entry.reference.number) (entries_of w) =
     any_entry (take w.owns w.own) w.below (entries_of w) (payments_of w) (laid_out_facts w t).entries_fit (λ e. same_number n e.reference.number)
@@ -78,7 +78,7 @@ contradicts_pool w t b =
     in
     let p : all (λ u. all (agreeing u) (held_payments (view w))) b ≡ all (λ u. all (λ p. agreeing u (view_transaction p.transaction)) (payments_of w)) b =
     all_same (λ u. all (agreeing u) (held_payments (view w))) (λ u. all (λ p. agreeing u (view_transaction p.transaction)) (payments_of w)) b
-    (λ u m. all_payment (take w.owns w.own) w.below (entries_of w) (payments_of w) (laid_out_facts w t).payments-fit (agreeing u))
+    (λ u m. all_payment (take w.owns w.own) w.below (entries_of w) (payments_of w) (laid_out_facts w t).payments_fit (agreeing u))
     in
     λ i. not (e i) || not (p i)
 

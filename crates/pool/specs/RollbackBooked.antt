@@ -224,15 +224,15 @@ rollback_booked w g n e =
     let down : w.below - 1 ≡ n = omega arith in (
       pool_view w (w.below - 1) (entries_after_rollback es) (payments_after_rollback ps)
           ∙ ap (λ (k : ℕ). view_of own k (entries_after_rollback es) (payments_after_rollback ps)) down
-          ∙ rollback_view own n es ps f.entries-ascend f.payments-ascend
+          ∙ rollback_view own n es ps f.entries_ascend f.payments_ascend
           ∙ ap (λ (k : ℕ). after_rollback (view_of own k es ps)) (sym e),
       subst (λ (k : ℕ). T (laid_out (with_pool w k (entries_after_rollback es) (payments_after_rollback ps)))) (sym down)
           (pool_laid_out w n (entries_after_rollback es) (payments_after_rollback ps) h
-          (omega (arith, e, f.few-below))
-          (omega (arith, rollback_entries_length es, entries_counted w f, f.few-entries))
-          (rollback_entries_ascending es f.entries-ascend)
+          (omega (arith, e, f.few_below))
+          (omega (arith, rollback_entries_length es, entries_counted w f, f.few_entries))
+          (rollback_entries_ascending es f.entries_ascend)
           (rollback_entries_fit n es (subst (λ (k : ℕ). T (all (held_fits (suc k)) es)) e f.entries_fit))
-          (omega (arith, rollback_payments_length ps, payments_counted w f, f.few-payments))
-          (rollback_payments_ascending ps f.payments-ascend)
-          (rollback_payments_fit n ps (subst (λ (k : ℕ). T (all (payment_fits (suc k)) ps)) e f.payments-fit))),
+          (omega (arith, rollback_payments_length ps, payments_counted w f, f.few_payments))
+          (rollback_payments_ascending ps f.payments_ascend)
+          (rollback_payments_fit n ps (subst (λ (k : ℕ). T (all (payment_fits (suc k)) ps)) e f.payments_fit))),
     )

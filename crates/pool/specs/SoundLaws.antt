@@ -51,7 +51,7 @@ held_place : (w : Pool) (e : Entry) → Memᴰ e (held_entries (view w)) → (h 
 held_place w e m = held_entry_place (take w.owns w.own) w.below (entries_of w) (payments_of w) m
 
 pending_in : (w : Pool) → LaidOut w → (p : Payment) → Memᴰ p (payments_of w) → Memᴰ (payment_in p) (held_payments (view w))
-pending_in w f p m = place_payment_held (take w.owns w.own) w.below (entries_of w) (payments_of w) f.payments-fit m
+pending_in w f p m = place_payment_held (take w.owns w.own) w.below (entries_of w) (payments_of w) f.payments_fit m
 
 pending_place : (w : Pool) (q : Chain.Transaction) → Memᴰ q (held_payments (view w)) → (p : Payment) × Memᴰ p (payments_of w) × (q ≡ payment_in p)
 pending_place w q m = held_payment_place (take w.owns w.own) w.below (entries_of w) (payments_of w) m
@@ -81,17 +81,17 @@ view_sound_pool : (w : Pool) → LaidOut w → Sound (view w) → T (pool_sound 
 unfolding pool_sound
 view_sound_pool w f g =
     every_holds (sound_tests w) (
-      g.own-shaped,
+      g.own_shaped,
       (
         all_intro (λ h. leb h.entry.amount largest_amount) (entries_of w)
             (λ h m. le→leb h.entry.amount largest_amount (g.amounts h.entry (held_in w f h m))),
         (
-          all_intro (λ h. is_own (take w.owns w.own) h.entry) (entries_of w) (λ h m. g.entries-own h.entry (held_in w f h m)),
+          all_intro (λ h. is_own (take w.owns w.own) h.entry) (entries_of w) (λ h m. g.entries_own h.entry (held_in w f h m)),
           (
             all_intro (λ h. apart_marks most_states h.utxo h.expected) (entries_of w) (view_apart w f g),
             (
               all_intro (λ p. shaped_transaction (view_transaction p.transaction)) (payments_of w)
-                  (λ p m. g.payments-shaped (payment_in p) (pending_in w f p m)),
+                  (λ p m. g.payments_shaped (payment_in p) (pending_in w f p m)),
               (
                 all_intro (λ o. all (λ h. agree o h.entry) (entries_of w)) (made (map payment_in (payments_of w)))
                     (λ o m.
@@ -100,7 +100,7 @@ view_sound_pool w f g =
                     all_intro (λ h. agree o h.entry) (entries_of w)
                     (λ h n.
                     equal_agree o h.entry
-                    (g.outputs-agree o h.entry (gather_intro makes (Memᴰ.cast p.2 (pending_in w f p.0 p.1)) r.2) (held_in w f h n)))),
+                    (g.outputs_agree_lem o h.entry (gather_intro makes (Memᴰ.cast p.2 (pending_in w f p.0 p.1)) r.2) (held_in w f h n)))),
                 tt,
               ),
             ),
@@ -116,10 +116,10 @@ unfolding pool_sound
 pool_apart w f t k q e d m n s =
     let a = picked_elim (λ (h : Held). marked k h.utxo) entry_in (entries_of w) m in
     let b = picked_elim (λ (h : Held). marked k h.expected) entry_in (entries_of w) n in
-    let c : a.0 ≡ b.0 = held_once (entries_of w) f.entries-ascend a.0 b.0 a.1 b.1 (same_at a.3 b.3 s) in
+    let c : a.0 ≡ b.0 = held_once (entries_of w) f.entries_ascend a.0 b.0 a.1 b.1 (same_at a.3 b.3 s) in
     apart_elim most_states a.0.utxo a.0.expected k
     (all_elim (λ (h : Held). apart_marks most_states h.utxo h.expected) (every_at (sound_tests w) 3 t) a.1)
-    (omega (arith, f.few-below))
+    (omega (arith, f.few_below))
     a.2
     (subst (λ (h : Held). T (marked k h.expected)) (sym c) b.2)
   where
@@ -133,20 +133,20 @@ pool_sound_view w f t =
     let es : List Held = entries_of w in
     let ps : List Payment = payments_of w in
     record {
-      few_states = omega (arith, states_count 1 w.below es ps, f.few-below);
+      few_states = omega (arith, states_count 1 w.below es ps, f.few_below);
       few_payments =
           omega (
             arith,
-            payments_count own w.below es ps f.payments-ascend f.payments-fit,
+            payments_count own w.below es ps f.payments_ascend f.payments_fit,
             payments_counted w f,
-            f.few-payments,
+            f.few_payments,
           );
       few_references =
           omega (
             arith,
-            references_count own w.below es ps f.entries-ascend f.entries_fit,
+            references_count own w.below es ps f.entries_ascend f.entries_fit,
             entries_counted w f,
-            f.few-entries,
+            f.few_entries,
           );
       amounts =
           λ e m.
@@ -156,11 +156,11 @@ pool_sound_view w f t =
           (all_elim (λ (x : Held). leb x.entry.amount largest_amount) (every_at (sound_tests w) 1 t) h.1));
       own_shaped = every_at (sound_tests w) 0 t;
       utxo_ascending =
-          each_state w (λ s. T (ascending before_entry s.utxo)) (λ k q. utxo_ascending k es f.entries-ascend);
+          each_state w (λ s. T (ascending before_entry s.utxo)) (λ k q. utxo_ascending k es f.entries_ascend);
       pending_ascending =
-          each_state w (λ s. T (ascending before_transaction s.pending)) (λ k q. pending_ascending k ps f.payments-ascend);
+          each_state w (λ s. T (ascending before_transaction s.pending)) (λ k q. pending_ascending k ps f.payments_ascend);
       expected_ascending =
-          each_state w (λ s. T (ascending before_entry s.expected)) (λ k q. expected_ascending k es f.entries-ascend);
+          each_state w (λ s. T (ascending before_entry s.expected)) (λ k q. expected_ascending k es f.entries_ascend);
       payments_shaped =
           λ q m.
           let p = pending_place w q m in
@@ -180,7 +180,7 @@ pool_sound_view w f t =
           let b = held_place w d n in
           a.2
           ∙ ap entry_in
-          (held_once es f.entries-ascend a.0 b.0 a.1 b.1
+          (held_once es f.entries_ascend a.0 b.0 a.1 b.1
           (subst (λ (z : Entry). T (same_entry a.0.entry z)) b.2 (subst (λ (z : Entry). T (same_entry z d)) a.2 s)))
           ∙ sym b.2;
       one_content =
@@ -189,7 +189,7 @@ pool_sound_view w f t =
           let b = pending_place w q n in
           a.2
           ∙ ap payment_in
-          (payment_once ps f.payments-ascend a.0 b.0 a.1 b.1
+          (payment_once ps f.payments_ascend a.0 b.0 a.1 b.1
           (subst (λ (z : Chain.Transaction). T (same_number (payment_in a.0).number z.number)) b.2
           (subst (λ (z : Chain.Transaction). T (same_number z.number q.number)) a.2 s)))
           ∙ sym b.2;

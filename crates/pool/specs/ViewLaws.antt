@@ -132,37 +132,37 @@ view_one w v s t e =
     let g = laid_out_facts v t in
     let b : w.below ≡ v.below = below_one w v e in
     let es : entries_of w ≡ entries_of v =
-    entries_one (suc w.below) (entries_of w) (entries_of v) f.entries-ascend g.entries-ascend f.entries_fit
+    entries_one (suc w.below) (entries_of w) (entries_of v) f.entries_ascend g.entries_ascend f.entries_fit
     (subst (λ (n : ℕ). T (all (held_fits (suc n)) (entries_of v))) (sym b) g.entries_fit)
     (λ k h. ap (λ (x : State). x.utxo) (state_one w v e k h))
     (λ k h. ap (λ (x : State). x.expected) (state_one w v e k h))
     in
     let ps : payments_of w ≡ payments_of v =
-    payments_one (suc w.below) (payments_of w) (payments_of v) f.payments-ascend g.payments-ascend f.payments-fit
-    (subst (λ (n : ℕ). T (all (payment_fits (suc n)) (payments_of v))) (sym b) g.payments-fit)
+    payments_one (suc w.below) (payments_of w) (payments_of v) f.payments_ascend g.payments_ascend f.payments_fit
+    (subst (λ (n : ℕ). T (all (payment_fits (suc n)) (payments_of v))) (sym b) g.payments_fit)
     (λ k h. ap (λ (x : State). x.pending) (state_one w v e k h))
     in
     let own =
     places_one (λ (a : ℕ). eqb a 0) 0 (λ a z. eqb→eq a 0 z) w.own v.own w.owns v.owns
-    (f.own-length ∙ sym g.own-length)
-    (omega (arith, f.own-length, f.few-own))
-    (omega (arith, g.own-length, g.few-own))
-    f.own-rest g.own-rest
+    (f.own_length ∙ sym g.own_length)
+    (omega (arith, f.own_length, f.few_own))
+    (omega (arith, g.own_length, g.few_own))
+    f.own_rest g.own_rest
     (ap (λ (u : States.Wallet). u.own) e)
     in
     let entries =
     places_one no_held zero_held no_held_lem w.entries v.entries w.used v.used
-    (f.entries-length ∙ sym g.entries-length)
-    (omega (arith, f.entries-length, f.few-entries))
-    (omega (arith, g.entries-length, g.few-entries))
-    f.entries-rest g.entries-rest es
+    (f.entries_length ∙ sym g.entries_length)
+    (omega (arith, f.entries_length, f.few_entries))
+    (omega (arith, g.entries_length, g.few_entries))
+    f.entries_rest g.entries_rest es
     in
     let payments =
     places_one no_payment zero_payment no_payment_lem w.payments v.payments w.paying v.paying
-    (f.payments-length ∙ sym g.payments-length)
-    (omega (arith, f.payments-length, f.few-payments))
-    (omega (arith, g.payments-length, g.few-payments))
-    f.payments-rest g.payments-rest ps
+    (f.payments_length ∙ sym g.payments_length)
+    (omega (arith, f.payments_length, f.few_payments))
+    (omega (arith, g.payments_length, g.few_payments))
+    f.payments_rest g.payments_rest ps
     in
     λ i.
     record {

@@ -64,26 +64,26 @@ invariant_block r b v =
     let g = r.log in
     let new : Standing = record { moment = g.now; block = b } in
     record {
-      accepted_before = λ a m. omega (arith, v.accepted-before a m);
+      accepted_before = λ a m. omega (arith, v.accepted_before a m);
       present =
           record {
             unspent = ap (λ (u : List Entry). block_utxo w.own u b) v.present.unspent;
             pending_only =
                 λ p m.
                 let k = pending_kept w.present.pending b p m in
-                let h = v.present.pending-only p k.0 in
+                let h = v.present.pending_only p k.0 in
                 (h.0, h.1, h.2, omega arith, untouched_more h.0 new g.standing p h.4 (λ l. k.1));
             pending_all =
                 λ p (h : PendingBefore g.accepted (suc g.now) (new ∷ g.standing) p).
                 pending_keeps w.present.pending b p
-                (v.present.pending-all p
-                (h.0, h.1, h.2, v.accepted-before h.0 h.1, λ d m. h.4 d (Memᴰ.tail m)))
-                (h.4 new (Memᴰ.head refl) (v.accepted-before h.0 h.1));
+                (v.present.pending_all p
+                (h.0, h.1, h.2, v.accepted_before h.0 h.1, λ d m. h.4 d (Memᴰ.tail m)))
+                (h.4 new (Memᴰ.head refl) (v.accepted_before h.0 h.1));
             standing_before =
                 λ d m.
                 ⊎_elim
                 (λ (e : d ≡ new). let q : d.moment ≡ g.now = ap (λ (c : Standing). c.moment) e in omega arith)
-                (λ (k : Memᴰ d g.standing). omega (arith, v.present.standing-before d k))
+                (λ (k : Memᴰ d g.standing). omega (arith, v.present.standing_before d k))
                 (Memᴰ.cases_cons m);
           };
       below = below_take w.own g.accepted (new ∷ g.standing) (most_states - 1) (states w) (v.present, v.below);

@@ -68,10 +68,10 @@ pub stands_later :
 stands_later own accepted upto later standing s h f v =
     record {
       unspent = v.unspent;
-      pending_only = λ p m. let k = v.pending-only p m in (k.0, k.1, k.2, omega arith, k.4);
+      pending_only = λ p m. let k = v.pending_only p m in (k.0, k.1, k.2, omega arith, k.4);
       pending_all =
-          λ p (k : PendingBefore accepted later standing p). v.pending-all p (k.0, k.1, k.2, f k.0 k.1, k.4);
-      standing_before = λ b m. omega (arith, v.standing-before b m);
+          λ p (k : PendingBefore accepted later standing p). v.pending_all p (k.0, k.1, k.2, f k.0 k.1, k.4);
+      standing_before = λ b m. omega (arith, v.standing_before b m);
     }
 
 -- A refused call takes up a moment and changes nothing else.
@@ -80,10 +80,10 @@ invariant_refused r v =
     let w = r.wallet in
     let g = r.log in
     record {
-      accepted_before = λ a m. omega (arith, v.accepted-before a m);
+      accepted_before = λ a m. omega (arith, v.accepted_before a m);
       present =
           stands_later w.own g.accepted g.now (suc g.now) g.standing w.present (omega arith)
-          v.accepted-before
+          v.accepted_before
           v.present;
       below = v.below;
     }

@@ -29,7 +29,7 @@ pub stands_unseen :
 stands_unseen own accepted a upto standing s h v =
     record {
       unspent = v.unspent;
-      pending_only = λ p m. let k = v.pending-only p m in (k.0, Memᴰ.tail k.1, k.2, k.3, k.4);
+      pending_only = λ p m. let k = v.pending_only p m in (k.0, Memᴰ.tail k.1, k.2, k.3, k.4);
       pending_all =
           λ p (k : PendingBefore (a ∷ accepted) upto standing p).
           ⊎_elim
@@ -38,9 +38,9 @@ stands_unseen own accepted a upto standing s h v =
           let l : k.0.moment < upto = k.3 in
           let no : ⊥ = omega arith in
           absurd no)
-          (λ (m : Memᴰ k.0 accepted). v.pending-all p (k.0, m, k.2, k.3, k.4))
+          (λ (m : Memᴰ k.0 accepted). v.pending_all p (k.0, m, k.2, k.3, k.4))
           (Memᴰ.cases_cons k.1);
-      standing_before = v.standing-before;
+      standing_before = v.standing_before;
     }
 
 -- Nor do the states below it.
@@ -69,7 +69,7 @@ invariant_payment r p v =
           λ a m.
           ⊎_elim
           (λ (e : a ≡ new). let q : a.moment ≡ g.now = ap (λ (c : Accepted). c.moment) e in omega arith)
-          (λ (k : Memᴰ a g.accepted). omega (arith, v.accepted-before a k))
+          (λ (k : Memᴰ a g.accepted). omega (arith, v.accepted_before a k))
           (Memᴰ.cases_cons m);
       present =
           record {
@@ -78,7 +78,7 @@ invariant_payment r p v =
                 λ u m.
                 ⊎_elim
                 (λ (k : Memᴰ u w.present.pending).
-                let h = v.present.pending-only u k in
+                let h = v.present.pending_only u k in
                 (h.0, Memᴰ.tail h.1, h.2, omega arith, h.4))
                 (λ (k : Memᴰ u (p ∷ [])). accepted_now u (Memᴰ.cases_cons k))
                 (payments_from w.present.pending (p ∷ []) u m);
@@ -90,13 +90,13 @@ invariant_payment r p v =
                 (Memᴰ.head (sym h.2 ∙ ap (λ (a : Accepted). a.payment) e)))
                 (λ (k : Memᴰ h.0 g.accepted).
                 payments_old w.present.pending (p ∷ []) u
-                (v.present.pending-all u (h.0, k, h.2, v.accepted-before h.0 k, h.4)))
+                (v.present.pending_all u (h.0, k, h.2, v.accepted_before h.0 k, h.4)))
                 (Memᴰ.cases_cons h.1);
-            standing_before = λ d m. omega (arith, v.present.standing-before d m);
+            standing_before = λ d m. omega (arith, v.present.standing_before d m);
           };
       below =
           below_unseen w.own g.accepted new g.standing w.below
-          (λ d m. omega (arith, v.present.standing-before d m))
+          (λ d m. omega (arith, v.present.standing_before d m))
           v.below;
     }
   where
@@ -108,6 +108,6 @@ invariant_payment r p v =
       Memᴰ.head refl,
       sym e,
       omega arith,
-      λ b m l s. omega (arith, v.present.standing-before b m),
+      λ b m l s. omega (arith, v.present.standing_before b m),
     )
     accepted_now u (inr k) = absurd (Memᴰ.not-nil k)

@@ -49,9 +49,9 @@ pub invariant_demanded : (r : Run) → Invariant r → Demanded r
 invariant_demanded r v =
     record {
       unspent = v.present.unspent;
-      pending_only = λ p m. let k = v.present.pending-only p m in (k.0, k.1, k.2, k.4);
+      pending_only = λ p m. let k = v.present.pending_only p m in (k.0, k.1, k.2, k.4);
       pending_all =
-          λ p (k : StillPending r.log p). v.present.pending-all p (k.0, k.1, k.2, v.accepted-before k.0 k.1, k.3);
+          λ p (k : StillPending r.log p). v.present.pending_all p (k.0, k.1, k.2, v.accepted_before k.0 k.1, k.3);
     }
 
 -- Demand 3 from any wallet with a log that has the invariant.

@@ -27,10 +27,10 @@ stands_back own accepted upto b older s q v u =
           λ p m.
           ⊎_elim
           (λ (k : Memᴰ p q.pending).
-          let h = u.pending-only p k in
-          (h.0, h.1, h.2, omega (arith, v.standing-before b (Memᴰ.head refl)), h.4))
+          let h = u.pending_only p k in
+          (h.0, h.1, h.2, omega (arith, v.standing_before b (Memᴰ.head refl)), h.4))
           (λ (k : Memᴰ p s.pending).
-          let h = v.pending-only p k in
+          let h = v.pending_only p k in
           (h.0, h.1, h.2, h.3, λ d n. h.4 d (Memᴰ.tail n)))
           (payments_from q.pending s.pending p m);
       pending_all =
@@ -39,13 +39,13 @@ stands_back own accepted upto b older s q v u =
           -- accepted before the block: pending below
           (λ (t : T (ltb h.0.moment b.moment)).
           payments_old q.pending s.pending p
-          (u.pending-all p (h.0, h.1, h.2, ltb→lt h.0.moment b.moment t, h.4)))
+          (u.pending_all p (h.0, h.1, h.2, ltb→lt h.0.moment b.moment t, h.4)))
           -- accepted after the block: not touched by it
           (λ (t : T (not (ltb h.0.moment b.moment))).
           payments_new q.pending s.pending p
-          (v.pending-all p (h.0, h.1, h.2, h.3, since p h (nltb→le h.0.moment b.moment t))))
+          (v.pending_all p (h.0, h.1, h.2, h.3, since p h (nltb→le h.0.moment b.moment t))))
           (T-cases (ltb h.0.moment b.moment));
-      standing_before = λ d m. v.standing-before d (Memᴰ.tail m);
+      standing_before = λ d m. v.standing_before d (Memᴰ.tail m);
     }
   where
     since :
@@ -92,9 +92,9 @@ invariant_rollback r e v = back r.wallet.below r.log.standing e v.present v.belo
     back (q ∷ rest) [] e h k = absurd k
     back (q ∷ rest) (b ∷ older) e h k =
         record {
-          accepted_before = λ a m. omega (arith, v.accepted-before a m);
+          accepted_before = λ a m. omega (arith, v.accepted_before a m);
           present =
-              stands_later own g.accepted g.now (suc g.now) older (rolled_back s q) (omega arith) v.accepted-before
+              stands_later own g.accepted g.now (suc g.now) older (rolled_back s q) (omega arith) v.accepted_before
               (stands_back own g.accepted g.now b older s q h k.0);
           below = k.1;
         }

@@ -148,24 +148,24 @@ block_facts w b k a =
           let t = gather_elim makes b (own_made_lem w.own b h) in
           makes_amounts t.0 (block_transactions_shaped b a.shaped t.0 t.1) e t.2)
           (block_entry w b m);
-      own_shaped = k.own-shaped;
+      own_shaped = k.own_shaped;
       utxo_ascending =
           each_state w b (λ s. T (ascending before_entry s.utxo))
-          (block_utxo_ascending w.own w.present.utxo b (k.utxo-ascending w.present (Memᴰ.head refl)))
-          k.utxo-ascending;
+          (block_utxo_ascending w.own w.present.utxo b (k.utxo_ascending w.present (Memᴰ.head refl)))
+          k.utxo_ascending;
       pending_ascending =
           each_state w b (λ s. T (ascending before_transaction s.pending))
-          (block_pending_ascending w.present.pending b (k.pending-ascending w.present (Memᴰ.head refl)))
-          k.pending-ascending;
+          (block_pending_ascending w.present.pending b (k.pending_ascending w.present (Memᴰ.head refl)))
+          k.pending_ascending;
       expected_ascending =
           each_state w b (λ s. T (ascending before_entry s.expected))
-          (block_expected_ascending w.own w.present.expected b (k.expected-ascending w.present (Memᴰ.head refl)))
-          k.expected-ascending;
-      payments_shaped = λ p m. k.payments-shaped p (block_payment w b m);
+          (block_expected_ascending w.own w.present.expected b (k.expected_ascending w.present (Memᴰ.head refl)))
+          k.expected_ascending;
+      payments_shaped = λ p m. k.payments_shaped p (block_payment w b m);
       entries_own =
           λ e m.
           ⊎_elim
-          (λ (h : Memᴰ e (held_entries w)). k.entries-own e h)
+          (λ (h : Memᴰ e (held_entries w)). k.entries_own e h)
           (λ (h : Memᴰ e (own_made w.own b)). keep_holds (is_own w.own) (made b) h)
           (block_entry w b m);
       apart =
@@ -193,20 +193,20 @@ block_facts w b k a =
           made_once b a.shaped e f (own_made_lem w.own b h) (own_made_lem w.own b g) s)
           (block_entry w b n))
           (block_entry w b m);
-      one_content = λ p q m n s. k.one-content p q (block_payment w b m) (block_payment w b n) s;
+      one_content = λ p q m n s. k.one_content p q (block_payment w b m) (block_payment w b n) s;
       outputs_agree_lem =
           λ o e m n s.
           let r = gather_elim makes (held_payments (after_block w b)) m in
           let p : Memᴰ r.0 (held_payments w) = block_payment w b r.1 in
           ⊎_elim
-          (λ (h : Memᴰ e (held_entries w)). k.outputs-agree o e (gather_intro makes p r.2) h s)
+          (λ (h : Memᴰ e (held_entries w)). k.outputs_agree_lem o e (gather_intro makes p r.2) h s)
           (λ (h : Memᴰ e (own_made w.own b)).
           let t = gather_elim makes b (own_made_lem w.own b h) in
           let d : t.0 ≡ r.0 =
           transaction_held w b a.consistent t.0 r.0 t.1 p
           (sym (makes_number t.0 e t.2) ∙ sym (same_entry_number o e s) ∙ makes_number r.0 o r.2)
           in
-          makes_once r.0 (k.payments-shaped r.0 p) o e r.2
+          makes_once r.0 (k.payments_shaped r.0 p) o e r.2
           (subst (λ (x : Transaction). Memᴰ e (makes x)) d t.2)
           s)
           (block_entry w b n);
@@ -214,4 +214,4 @@ block_facts w b k a =
 
 -- an accepted block keeps a wallet sound
 pub block_sound : (w : Wallet) (b : Block) → AcceptedBlock w b → T (sound (after_block w b))
-block_sound w b a = facts_sound (after_block w b) (block_facts w b (sound_facts w a.sound-before) a)
+block_sound w b a = facts_sound (after_block w b) (block_facts w b (sound_facts w a.sound_before) a)

@@ -19,7 +19,7 @@ use Rattle.rules.specs.Minimum.{minimum_balance}
 use Rattle.rules.specs.Sound.{held_entries, held_payments, sound}
 use Rattle.rules.specs.Calls.{Call, step}
 use Rattle.soundness.specs.Orders.{same_entry_refl, same_entry_sym, same_entry_trans, before_entry_trans, before_entry_never, same_transaction_sym, same_transaction_trans, before_transaction_trans, before_transaction_never}
-use Rattle.futures.specs.Between.{minimum_most}
+use Rattle.future.specs.Between.{minimum_most}
 use Rattle.soundness.specs.Facts.{Sound, sound_facts, held_utxo, held_expected, held_pending}
 use Rattle.soundness.specs.Made.{makes_amounts}
 use Rattle.soundness.specs.Refused.{refused_unchanged, accepted_movement}
@@ -34,7 +34,7 @@ few_held :
 few_held w k l t held =
     omega (
       arith,
-      k.few-references,
+      k.few_references,
       different_fewer_set same_entry same_entry_sym same_entry_trans before_entry same_entry_refl l (held_entries w)
           (ascending_different before_entry before_entry_trans same_entry before_entry_never l t)
           (λ x m. any_intro (same_entry x) (held x m) (same_entry_refl x)),
@@ -42,19 +42,19 @@ few_held w k l t held =
 
 pub few_utxo : (w : Wallet) → Sound w → length w.present.utxo ≤ most_references
 few_utxo w k =
-    few_held w k w.present.utxo (k.utxo-ascending w.present (Memᴰ.head refl)) (λ e m. held_utxo w (Memᴰ.head refl) m)
+    few_held w k w.present.utxo (k.utxo_ascending w.present (Memᴰ.head refl)) (λ e m. held_utxo w (Memᴰ.head refl) m)
 
 pub few_expected : (w : Wallet) → Sound w → length w.present.expected ≤ most_references
 few_expected w k =
-    few_held w k w.present.expected (k.expected-ascending w.present (Memᴰ.head refl)) (λ e m. held_expected w (Memᴰ.head refl) m)
+    few_held w k w.present.expected (k.expected_ascending w.present (Memᴰ.head refl)) (λ e m. held_expected w (Memᴰ.head refl) m)
 
 pub few_pending : (w : Wallet) → Sound w → length w.present.pending ≤ most_payments
 few_pending w k =
     omega (
       arith,
-      k.few-payments,
+      k.few_payments,
       different_fewer_set same_transaction same_transaction_sym same_transaction_trans before_transaction same_transaction_refl w.present.pending (held_payments w)
-          (ascending_different before_transaction before_transaction_trans same_transaction before_transaction_never w.present.pending (k.pending-ascending w.present (Memᴰ.head refl)))
+          (ascending_different before_transaction before_transaction_trans same_transaction before_transaction_never w.present.pending (k.pending_ascending w.present (Memᴰ.head refl)))
           (λ x m. any_intro (same_transaction x) (held_pending w (Memᴰ.head refl) m) (same_transaction_refl x)),
     )
 
@@ -95,12 +95,12 @@ made_bound w k =
           omega (
             arith,
             length-map p.outputs (entry_of p.number),
-            (shaped_facts p (k.payments-shaped p (held_pending w (Memᴰ.head refl) m))).outputs_fit,
+            (shaped_facts p (k.payments_shaped p (held_pending w (Memᴰ.head refl) m))).outputs_fit,
           )),
       sum_bound (λ (e : Entry). e.amount) largest_amount (made w.present.pending)
           (λ e m.
           let r = gather_elim makes w.present.pending m in
-          makes_amounts r.0 (k.payments-shaped r.0 (held_pending w (Memᴰ.head refl) r.1)) e r.2),
+          makes_amounts r.0 (k.payments_shaped r.0 (held_pending w (Memᴰ.head refl) r.1)) e r.2),
     )
 
 -- the total balance

@@ -184,21 +184,21 @@ facts_sound w k =
     every_holds (clauses w) (
       and_both (leb (length (states w)) most_states && not (too_many w)) (all (λ e. leb e.amount largest_amount) (held_entries w))
           (and_both (leb (length (states w)) most_states) (not (too_many w))
-          (le→leb (length (states w)) most_states k.few-states)
-          (kept_room w k.few-payments k.few-references))
+          (le→leb (length (states w)) most_states k.few_states)
+          (kept_room w k.few_payments k.few_references))
           (all_intro (λ e. leb e.amount largest_amount) (held_entries w) (λ e m. le→leb e.amount largest_amount (k.amounts e m))),
       (
-        k.own-shaped,
+        k.own_shaped,
         (
           all_intro sets_in_order (states w)
               (λ s m.
               and_both (ascending before_entry s.utxo && ascending before_transaction s.pending) (ascending before_entry s.expected)
-              (and_both (ascending before_entry s.utxo) (ascending before_transaction s.pending) (k.utxo-ascending s m) (k.pending-ascending s m))
-              (k.expected-ascending s m)),
+              (and_both (ascending before_entry s.utxo) (ascending before_transaction s.pending) (k.utxo_ascending s m) (k.pending_ascending s m))
+              (k.expected_ascending s m)),
           (
-            all_intro shaped_transaction (held_payments w) k.payments-shaped,
+            all_intro shaped_transaction (held_payments w) k.payments_shaped,
             (
-              all_intro (is_own w.own) (held_entries w) k.entries-own,
+              all_intro (is_own w.own) (held_entries w) k.entries_own,
               (
                 all_intro sets_apart (states w)
                     (λ s m.
@@ -209,10 +209,10 @@ facts_sound w k =
                       (λ e m. all_intro (agree e) (held_entries w) (λ f n. equal_agree e f (k.one_value e f m n))),
                   (
                     all_intro (λ p. all (agreeing p) (held_payments w)) (held_payments w)
-                        (λ p m. all_intro (agreeing p) (held_payments w) (λ q n. equal_agreeing p q (k.one-content p q m n))),
+                        (λ p m. all_intro (agreeing p) (held_payments w) (λ q n. equal_agreeing p q (k.one_content p q m n))),
                     (
                       all_intro (λ o. all (agree o) (held_entries w)) (made (held_payments w))
-                          (λ o m. all_intro (agree o) (held_entries w) (λ e n. equal_agree o e (k.outputs-agree o e m n))),
+                          (λ o m. all_intro (agree o) (held_entries w) (λ e n. equal_agree o e (k.outputs_agree_lem o e m n))),
                       tt,
                     ),
                   ),

@@ -39,7 +39,7 @@ accepted_sound w (block_call b) e =
 accepted_sound w (pay_call p) e =
     subst (λ (s : Step). T (sound s.wallet)) (sym (accepted_payment w p e)) (payment_sound w p (payment_accepted w p e))
 accepted_sound w back_call e =
-    subst (λ (s : Step). T (sound s.wallet)) (sym (accepted_rollback w e)) (rollback_sound w (rollback_accepted w e).sound-before)
+    subst (λ (s : Step). T (sound s.wallet)) (sym (accepted_rollback w e)) (rollback_sound w (rollback_accepted w e).sound_before)
 
 -- every step, accepted or refused, keeps a wallet sound
 pub step_sound : (w : Wallet) (c : Call) → T (sound w) → T (sound (step w c).wallet)

@@ -63,13 +63,13 @@ payment_facts : (w : Wallet) (p : Transaction) → Sound w → AcceptedPayment w
 unfolding after_payment
 payment_facts w p k a =
     record {
-      few_states = k.few-states;
+      few_states = k.few_states;
       few_payments = (room_kept (after_payment w p) a.room).0;
       few_references = (room_kept (after_payment w p) a.room).1;
       amounts = k.amounts;
-      own_shaped = k.own-shaped;
+      own_shaped = k.own_shaped;
       utxo_ascending =
-          each_state w p (λ s. T (ascending before_entry s.utxo)) (k.utxo-ascending w.present (Memᴰ.head refl)) k.utxo-ascending;
+          each_state w p (λ s. T (ascending before_entry s.utxo)) (k.utxo_ascending w.present (Memᴰ.head refl)) k.utxo_ascending;
       pending_ascending =
           each_state w p (λ s. T (ascending before_transaction s.pending))
           (together-ascending before_transaction before_transaction_trans same_transaction w.present.pending (p ∷ [])
@@ -79,23 +79,23 @@ payment_facts w p k a =
           let e : x ≡ p = Memᴰ.eq_of_singleton m in
           ⊎_elim
           (λ (h : Memᴰ y w.present.pending).
-          not_pending w p.number a.number-new y (held_pending w (Memᴰ.head refl) h)
+          not_pending w p.number a.number_new y (held_pending w (Memᴰ.head refl) h)
           (sym (ap (λ (t : Transaction). t.number) e) ∙ same_number_eq x.number y.number s))
           (λ (h : Memᴰ y (p ∷ [])).
           T_not (same_transaction x y) d
           (subst (λ (t : Transaction). T (same_transaction x t)) (e ∙ sym (Memᴰ.eq_of_singleton h)) (same_transaction_refl x)))
           n))
-          (k.pending-ascending w.present (Memᴰ.head refl)))
-          k.pending-ascending;
+          (k.pending_ascending w.present (Memᴰ.head refl)))
+          k.pending_ascending;
       expected_ascending =
-          each_state w p (λ s. T (ascending before_entry s.expected)) (k.expected-ascending w.present (Memᴰ.head refl)) k.expected-ascending;
+          each_state w p (λ s. T (ascending before_entry s.expected)) (k.expected_ascending w.present (Memᴰ.head refl)) k.expected_ascending;
       payments_shaped =
           λ q m.
           ⊎_elim
           (λ (e : q ≡ p). subst (λ (t : Transaction). T (shaped_transaction t)) (sym e) a.shaped)
-          (λ (h : Memᴰ q (held_payments w)). k.payments-shaped q h)
+          (λ (h : Memᴰ q (held_payments w)). k.payments_shaped q h)
           (payment_payments w p q m);
-      entries_own = k.entries-own;
+      entries_own = k.entries_own;
       apart =
           each_state w p (λ s. (e f : Entry) → Memᴰ e s.utxo → Memᴰ f s.expected → T (same_entry e f) → ⊥)
           (k.apart w.present (Memᴰ.head refl))
@@ -109,13 +109,13 @@ payment_facts w p k a =
           ⊎_elim
           (λ (y : r ≡ p). x ∙ sym y)
           (λ (h : Memᴰ r (held_payments w)).
-          absurd (not_pending w p.number a.number-new r h (sym (ap (λ (t : Transaction). t.number) x) ∙ e)))
+          absurd (not_pending w p.number a.number_new r h (sym (ap (λ (t : Transaction). t.number) x) ∙ e)))
           (payment_payments w p r n))
           (λ (g : Memᴰ q (held_payments w)).
           ⊎_elim
           (λ (y : r ≡ p).
-          absurd (not_pending w p.number a.number-new q g (sym (ap (λ (t : Transaction). t.number) y) ∙ sym e)))
-          (λ (h : Memᴰ r (held_payments w)). k.one-content q r g h s)
+          absurd (not_pending w p.number a.number_new q g (sym (ap (λ (t : Transaction). t.number) y) ∙ sym e)))
+          (λ (h : Memᴰ r (held_payments w)). k.one_content q r g h s)
           (payment_payments w p r n))
           (payment_payments w p q m);
       outputs_agree_lem =
@@ -124,12 +124,12 @@ payment_facts w p k a =
           ⊎_elim
           (λ (x : t.0 ≡ p).
           absurd
-          (not_held w p.number a.number-new e n
+          (not_held w p.number a.number_new e n
           (sym (ap (λ (t : Transaction). t.number) x) ∙ sym (makes_number t.0 o t.2) ∙ same_entry_number o e s)))
-          (λ (h : Memᴰ t.0 (held_payments w)). k.outputs-agree o e (gather_intro makes h t.2) n s)
+          (λ (h : Memᴰ t.0 (held_payments w)). k.outputs_agree_lem o e (gather_intro makes h t.2) n s)
           (payment_payments w p t.0 t.1);
     }
 
 -- an accepted payment keeps a wallet sound
 pub payment_sound : (w : Wallet) (p : Transaction) → AcceptedPayment w p → T (sound (after_payment w p))
-payment_sound w p a = facts_sound (after_payment w p) (payment_facts w p (sound_facts w a.sound-before) a)
+payment_sound w p a = facts_sound (after_payment w p) (payment_facts w p (sound_facts w a.sound_before) a)

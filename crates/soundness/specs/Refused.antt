@@ -161,8 +161,8 @@ unfolding block block_refusals
 block_accepts w b k =
     answer_of_step (answer_of (block_refusals w b)) w (after_block w b)
     ∙ none_answered (block_refusals w b) (
-      not_not_holds (sound w) k.sound-before,
-      (not_not_holds (shaped_block b) k.shaped, (k.made-new, (k.consistent, (k.room, tt)))),
+      not_not_holds (sound w) k.sound_before,
+      (not_not_holds (shaped_block b) k.shaped, (k.made_new, (k.consistent, (k.room, tt)))),
     )
 
 -- a payment that is given no refusal is accepted
@@ -171,10 +171,10 @@ unfolding pay payment_refusals
 payment_accepts w p k =
     answer_of_step (answer_of (payment_refusals w p)) w (after_payment w p)
     ∙ none_answered (payment_refusals w p) (
-      not_not_holds (sound w) k.sound-before,
+      not_not_holds (sound w) k.sound_before,
       (
         not_not_holds (shaped_transaction p) k.shaped,
-        (k.number-new, (k.inputs-there, (k.paid_for, (k.room, tt)))),
+        (k.number_new, (k.inputs_there, (k.paid_for, (k.room, tt)))),
       ),
     )
 
@@ -183,4 +183,4 @@ pub rollback_accepts : (w : Wallet) → AcceptedRollback w → (step w back_call
 unfolding roll_back rollback_refusals
 rollback_accepts w k =
     answer_of_step (answer_of (rollback_refusals w)) w (after_rollback w)
-    ∙ none_answered (rollback_refusals w) (not_not_holds (sound w) k.sound-before, (k.more-than-one, tt))
+    ∙ none_answered (rollback_refusals w) (not_not_holds (sound w) k.sound_before, (k.more_than_one, tt))

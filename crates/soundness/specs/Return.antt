@@ -58,7 +58,7 @@ gained_unspent w b a {e} m =
     let q : e ≡ z.0 =
     ⊎_elim
     (λ (h : Memᴰ z.0 w.present.utxo).
-    absurd (made_not_unspent w.present b a.made-new e z.0 (own_made_lem w.own b o) h z.2))
+    absurd (made_not_unspent w.present b a.made_new e z.0 (own_made_lem w.own b o) h z.2))
     (λ (h : Memᴰ z.0 (own_made w.own b)).
     made_once b a.shaped e z.0 (own_made_lem w.own b o) (own_made_lem w.own b h) z.2)
     (together_from same_entry before_entry w.present.utxo (own_made w.own b) z.1)
@@ -139,13 +139,13 @@ expected_all w b a e m =
     keep_intro (λ (e : Entry). not (has same_entry e w.present.utxo)) (with_entries w.present.expected (joined w b))
     (together_left same_entry before_entry w.present.expected (joined w b) h)
     (any_none (same_entry e) w.present.utxo
-    (λ f n s. (sound_facts w a.sound-before).apart w.present (mathlib.Core.List.Memᴰ.head refl) f e n h (same_entry_sym e f s))))
+    (λ f n s. (sound_facts w a.sound_before).apart w.present (mathlib.Core.List.Memᴰ.head refl) f e n h (same_entry_sym e f s))))
     (λ (h : Memᴰ e (gained w b)).
     keep_intro (λ (e : Entry). not (has same_entry e w.present.utxo)) (with_entries w.present.expected (joined w b))
     (found h)
     (any_none (same_entry e) w.present.utxo
     (λ f n s.
-    made_not_unspent w.present b a.made-new e f
+    made_not_unspent w.present b a.made_new e f
     (own_made_lem w.own b (keep_from (λ (e : Entry). not (has same_reference e.reference (spent b))) (own_made w.own b) h))
     n s)))
     (together_from same_entry before_entry w.present.expected (gained w b) m)
@@ -168,7 +168,7 @@ expected_all w b a e m =
 expected_back : (w : Wallet) (b : Block) → AcceptedBlock w b → without_entries w.present.utxo (with_entries w.present.expected (joined w b)) ≡ with_entries w.present.expected (gained w b)
 expected_back w b a =
     let t : T (ascending before_entry w.present.expected) =
-    (sound_facts w a.sound-before).expected-ascending w.present (mathlib.Core.List.Memᴰ.head refl)
+    (sound_facts w a.sound_before).expected_ascending w.present (mathlib.Core.List.Memᴰ.head refl)
     in
     ascending_one before_entry before_entry_trans before_entry_irrefl
     (without_entries w.present.utxo (with_entries w.present.expected (joined w b)))

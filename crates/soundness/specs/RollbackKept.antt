@@ -55,8 +55,8 @@ rolled_back_pending_ascending w k q h =
     before_transaction_one x y
     (λ (s : T (same_number x.number y.number)).
     T_not (same_transaction x y) d
-    (subst (λ (t : Transaction). T (same_transaction x t)) (k.one-content x y mx my s) (same_transaction_refl x))))
-    (k.pending-ascending q (mathlib.Core.List.Memᴰ.tail h))
+    (subst (λ (t : Transaction). T (same_transaction x t)) (k.one_content x y mx my s) (same_transaction_refl x))))
+    (k.pending_ascending q (mathlib.Core.List.Memᴰ.tail h))
 
 rolled_back_apart : (p q : State) (e f : Entry) → Memᴰ e (rolled_back p q).utxo → Memᴰ f (rolled_back p q).expected → T (same_entry e f) → ⊥
 unfolding rolled_back
@@ -77,36 +77,36 @@ rollback_facts w t =
     let k = sound_facts w t in
     let room = room_kept (after_rollback w) (rollback_room w t) in
     record {
-      few_states = omega (arith, fewer_states w.own w.present w.below, k.few-states);
+      few_states = omega (arith, fewer_states w.own w.present w.below, k.few_states);
       few_payments = room.0;
       few_references = room.1;
       amounts = λ e m. k.amounts e (rollback_entry w m);
-      own_shaped = rw (same_own w.own w.present w.below) k.own-shaped;
+      own_shaped = rw (same_own w.own w.present w.below) k.own_shaped;
       utxo_ascending =
           each_state w.own w.present w.below (λ s. T (ascending before_entry s.utxo))
-          (λ q h. rw (rolled_back_utxo w.present q) (k.utxo-ascending q (mathlib.Core.List.Memᴰ.tail h)))
-          k.utxo-ascending;
+          (λ q h. rw (rolled_back_utxo w.present q) (k.utxo_ascending q (mathlib.Core.List.Memᴰ.tail h)))
+          k.utxo_ascending;
       pending_ascending =
           each_state w.own w.present w.below (λ s. T (ascending before_transaction s.pending))
           (rolled_back_pending_ascending w k)
-          k.pending-ascending;
+          k.pending_ascending;
       expected_ascending =
           each_state w.own w.present w.below (λ s. T (ascending before_entry s.expected))
-          (λ q h. rolled_back_expected_ascending w.present q (k.expected-ascending q (mathlib.Core.List.Memᴰ.tail h)))
-          k.expected-ascending;
-      payments_shaped = λ p m. k.payments-shaped p (rollback_payment w m);
-      entries_own = λ e m. rw (same_own w.own w.present w.below) (k.entries-own e (rollback_entry w m));
+          (λ q h. rolled_back_expected_ascending w.present q (k.expected_ascending q (mathlib.Core.List.Memᴰ.tail h)))
+          k.expected_ascending;
+      payments_shaped = λ p m. k.payments_shaped p (rollback_payment w m);
+      entries_own = λ e m. rw (same_own w.own w.present w.below) (k.entries_own e (rollback_entry w m));
       apart =
           each_state w.own w.present w.below
           (λ s. (e f : Entry) → Memᴰ e s.utxo → Memᴰ f s.expected → T (same_entry e f) → ⊥)
           (λ q h. rolled_back_apart w.present q)
           k.apart;
       one_value = λ e f m n s. k.one_value e f (rollback_entry w m) (rollback_entry w n) s;
-      one_content = λ p q m n s. k.one-content p q (rollback_payment w m) (rollback_payment w n) s;
+      one_content = λ p q m n s. k.one_content p q (rollback_payment w m) (rollback_payment w n) s;
       outputs_agree_lem =
           λ o e m n s.
           let r = gather_elim makes (held_payments (after_rollback w)) m in
-          k.outputs-agree o e (gather_intro makes (rollback_payment w r.1) r.2) (rollback_entry w n) s;
+          k.outputs_agree_lem o e (gather_intro makes (rollback_payment w r.1) r.2) (rollback_entry w n) s;
     }
 
 -- a rollback keeps a wallet sound

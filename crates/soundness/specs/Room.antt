@@ -99,4 +99,4 @@ rollback_room w t =
     (held_entries (after_rollback w)) (held_entries w)
     (λ x m. any_intro (same_entry x) (rollback_entry w m) (same_entry_refl x))
     in
-    kept_room (after_rollback w) (omega (arith, p, k.few-payments)) (omega (arith, r, k.few-references))
+    kept_room (after_rollback w) (omega (arith, p, k.few_payments)) (omega (arith, r, k.few_references))

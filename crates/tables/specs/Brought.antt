@@ -17,7 +17,7 @@ use Rattle.rules.specs.Chain.{same_number, same_reference, same_entry, Transacti
 use Rattle.rules.specs.ChainLaws.{same_number_refl, same_number_eq, same_number_of}
 use Rattle.rules.specs.States.{State, own_made}
 use Rattle.rules.specs.Minimum.{expected_numbers, stands}
-use Rattle.futures.specs.Forced.{needed, forced}
+use Rattle.future.specs.Forced.{needed, forced}
 use Rattle.soundness.specs.Orders.{same_entry_sym}
 use Rattle.tables.specs.Tables.{own_makes, brings_hard, brings_soft, bring_of, is_brought}
 use Rattle.tables.specs.Present.{Present, one_payment}

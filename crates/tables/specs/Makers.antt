@@ -14,7 +14,7 @@ use Rattle.rules.specs.Chain.{same_number, same_reference, Transaction, makes, m
 use Rattle.rules.specs.ChainLaws.{same_number_refl, same_number_eq, same_reference_eq}
 use Rattle.rules.specs.States.{State}
 use Rattle.rules.specs.Minimum.{Future, expected_numbers, brought, stands, shares_no_input, allowed}
-use Rattle.futures.specs.Forced.{forced_future, forced_allowed, provided, allowed_provided, allowed_intro}
+use Rattle.future.specs.Forced.{forced_future, forced_allowed, provided, allowed_provided, allowed_intro}
 use Rattle.soundness.specs.Made.{makes_number}
 use Rattle.tables.specs.Tables.{held}
 use Rattle.tables.specs.Present.{Present, other_number, numbers_differ, other_never}

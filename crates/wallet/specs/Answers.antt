@@ -314,7 +314,7 @@ payments_test w b g l =
     payment_laid : (q : Payment) → Memᴰ q (payments_of w) → T (ChainView.laid_out q.transaction)
     payment_laid q k =
         and_right (ltb q.pending (2 ^ suc w.below) && not (eqb q.pending 0)) (ChainView.laid_out q.transaction)
-        (all_elim (payment_fits (suc w.below)) (good_layout w g).payments-fit k)
+        (all_elim (payment_fits (suc w.below)) (good_layout w g).payments_fit k)
 
 module _ (w : Pool) (b : Block) (g : T (good w)) (s : T (good_block b)) where
   block_shaped : block_answer w b ≡ answer_of (block5 (view w) (view_block b))

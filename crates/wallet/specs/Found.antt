@@ -152,5 +152,5 @@ pub outputs_told :
     (w : Pool) (b : Block) (out : Made) → T (good w) → out ≡ made_of (made (view_block b)) →
     all (λ o. agrees_first o (entries_of w)) (made_in out) ≡ outputs_agree w b
 outputs_told w b out g e =
-    all_agree_first (entries_of w) (made_in out) (good_layout w g).entries-ascend
+    all_agree_first (entries_of w) (made_in out) (good_layout w g).entries_ascend
     ∙ ap (all (λ o. all (λ h. agree o h.entry) (entries_of w))) (ap made_in e ∙ made_back (made (view_block b)))

@@ -12,4 +12,4 @@ use Rattle.pool.specs.RoomLaws.{states_count}
 -- the present one and those below, of which a sound wallet has fewer than the most states
 pub held_states : (w : Pool) (below : ℕ) → T (good w) → below ≡ min w.below most_states → below + 1 ≡ length (states (view w))
 held_states w below g e =
-    omega (arith, e, (good_layout w g).few-below, states_count 1 w.below (entries_of w) (payments_of w))
+    omega (arith, e, (good_layout w g).few_below, states_count 1 w.below (entries_of w) (payments_of w))

@@ -48,7 +48,7 @@ pool_with w below entries used payments paying =
 entries_filled : (w : Pool) → T (good w) → w.entries ≡ filled most_references zero_held (entries_of w)
 entries_filled w g =
     let f = good_layout w g in
-    places_filled no_held zero_held no_held_lem most_references w.entries w.used f.entries-length f.few-entries f.entries-rest
+    places_filled no_held zero_held no_held_lem most_references w.entries w.used f.entries_length f.few_entries f.entries_rest
 
 -- the pool with the payments after a payment
 pub payment_pool :

@@ -76,7 +76,7 @@ payable w t e =
       room =
           leb→le (suc w.paying) most_payments
           (not_not (leb (suc w.paying) most_payments)
-          (subst (λ (c : Bool). T (not c)) (payment_room w f.0 t s k.number-new) k.room));
+          (subst (λ (c : Bool). T (not c)) (payment_room w f.0 t s k.number_new) k.room));
       shows = b.0;
       sound_after = b.1;
     }
@@ -89,7 +89,7 @@ unfolding Steps.pay
 pay_booked w t p m e b d =
     let k = payable w.pool t e in
     stepped_accepted w (ChainView.laid_out t) (answer_of (payment_refusals (viewed w) (view_transaction t))) (after_payment (viewed w) (view_transaction t)) p m e
-    (good_laid_out p (subst (λ (q : Pool). T (good q)) (sym b) k.sound-after))
+    (good_laid_out p (subst (λ (q : Pool). T (good q)) (sym b) k.sound_after))
     (ap view b ∙ k.shows)
     d
 
@@ -119,7 +119,7 @@ returnable w e =
     let b = rollback_good w f.0 k in
     record {
       sound_before = f.0;
-      some_below = omega (arith, neqb→ne w.below 0 (subst (λ (c : Bool). T (not c)) (only_one_lem w) k.more-than-one));
+      some_below = omega (arith, neqb→ne w.below 0 (subst (λ (c : Bool). T (not c)) (only_one_lem w) k.more_than_one));
       shows = b.0;
       sound_after = b.1;
     }
@@ -132,7 +132,7 @@ unfolding Steps.roll_back
 back_booked w p m e b d =
     let k = returnable w.pool e in
     stepped_accepted w true (answer_of (rollback_refusals (viewed w))) (after_rollback (viewed w)) p m e
-    (good_laid_out p (subst (λ (q : Pool). T (good q)) (sym b) k.sound-after))
+    (good_laid_out p (subst (λ (q : Pool). T (good q)) (sym b) k.sound_after))
     (ap view b ∙ k.shows)
     d
 
@@ -169,15 +169,15 @@ few_payments w b g =
       keep-length payment_marked (map (payment_after_block (spent b)) (payments_of w)),
       length-map (payments_of w) (payment_after_block (spent b)),
       payments_counted w f,
-      f.few-payments,
+      f.few_payments,
     )
 
 -- so a block that passed the tests lacks room exactly where its entries are too many
 pub block_lacks_room : (w : Pool) (b : Block) → Tested w b → too_many (after_block (view w) (view_block b)) ≡ not (leb (length (entries_booked w (view_block b))) most_references)
 block_lacks_room w b k =
-    block_room w (view_block b) k.sound-before k.shaped k.made-new k.consistent
+    block_room w (view_block b) k.sound_before k.shaped k.made_new k.consistent
     ∙ enough (leb (length (payments_booked w (view_block b))) most_payments) _
-    (le→leb (length (payments_booked w (view_block b))) most_payments (few_payments w (view_block b) k.sound-before))
+    (le→leb (length (payments_booked w (view_block b))) most_payments (few_payments w (view_block b) k.sound_before))
   where
     enough : (a c : Bool) → T a → (not a || c) ≡ c
     enough true c t = refl
@@ -193,7 +193,7 @@ rule_refused w b g l h =
 rule_room : (w : Pool) (b : Block) → block_answer w b ≡ 0 → answer_of (block_refusals (view w) (view_block b)) ≡ cond (leb (length (entries_booked w (view_block b))) most_references) 0 7
 rule_room w b e =
     let k = tested w b e in
-    block_then_room w b k.sound-before k.laid
+    block_then_room w b k.sound_before k.laid
     ∙ cond_true (eqb (block_answer w b) 0) _ (block_answer w b) (equal_holds (block_answer w b) 0 e)
     ∙ ap (λ (c : Bool). cond c 7 0) (block_lacks_room w b k)
     ∙ turned (leb (length (entries_booked w (view_block b))) most_references)
@@ -240,7 +240,7 @@ block_without_room w b e f =
     let rule : ℕ = answer_of (block_refusals (viewed w) (view_block b)) in
     let seven : rule ≡ 7 = rule_room w.pool b e ∙ ap (λ (c : Bool). cond c 0 7) f in
     stepped_refused w (laid_out_block b) rule (after_block (viewed w) (view_block b)) 7
-    (sym (answer_own w (laid_out_block b) rule k.sound-before k.laid ∙ seven))
+    (sym (answer_own w (laid_out_block b) rule k.sound_before k.laid ∙ seven))
     (λ (z : 7 ≡ 0). omega (arith, z))
 
 -- what is known of a block that the tests let through, and for which there is room
@@ -254,14 +254,14 @@ bookable w b e f =
     let k = tested w b e in
     let accepted : AcceptedBlock (view w) (view_block b) =
     record {
-      sound_before = good_view w k.sound-before;
+      sound_before = good_view w k.sound_before;
       shaped = k.shaped;
-      made_new = k.made-new;
+      made_new = k.made_new;
       consistent = k.consistent;
       room = subst (λ (c : Bool). T (not c)) (sym (block_lacks_room w b k ∙ ap not f)) tt;
     }
     in
-    let r = block_good w (view_block b) k.sound-before accepted in
+    let r = block_good w (view_block b) k.sound_before accepted in
     record { shows = r.0; sound_after = r.1 }
 
 -- such a block, booked, is the rules' block
@@ -276,7 +276,7 @@ block_booked w b p m e f q d =
     let rule : ℕ = answer_of (block_refusals (viewed w) (view_block b)) in
     let none : rule ≡ 0 = rule_room w.pool b e ∙ ap (λ (c : Bool). cond c 0 7) f in
     stepped_accepted w (laid_out_block b) rule (after_block (viewed w) (view_block b)) p m
-    (answer_own w (laid_out_block b) rule k.sound-before k.laid ∙ none)
-    (good_laid_out p (subst (λ (x : Pool). T (good x)) (sym q) r.sound-after))
+    (answer_own w (laid_out_block b) rule k.sound_before k.laid ∙ none)
+    (good_laid_out p (subst (λ (x : Pool). T (good x)) (sym q) r.sound_after))
     (ap view q ∙ r.shows)
     d

@@ -55,7 +55,7 @@ returns c =
     flags-alike start.args.w start.args.v _ _ _
     owned.same-own.ensures
     paid.before.same_entries.ensures
-    paid.same-payments.ensures
+    paid.same_payments.ensures
 
 pub same-wallet-spec : {M : Type 1} → statement M
 same-wallet-spec =

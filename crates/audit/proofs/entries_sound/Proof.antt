@@ -82,7 +82,7 @@ returns-4 c =
     c.before.before.before.before.good-own.ensures
     c.before.before.own-ends.ensures
     c.before.entries-end.ensures
-    c.entries-ascend.ensures
+    c.entries_ascend.ensures
     c.before.before.before.entries-good.ensures
 
 pub entries-sound-spec : {M : Type 1} → statement M

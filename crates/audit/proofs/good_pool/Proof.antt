@@ -93,7 +93,7 @@ returns-3 c =
     last-decides (entries_part w) (payments_part w) _ _ (good w)
     (ap not (sym c.before.before.before.before.before.before.before.before.entries-sound.ensures) ∙ c.before.before.before.before.before.before.before.if1.false)
     (ap not (sym c.before.before.before.before.before.before.payments-sound.ensures) ∙ c.before.before.before.before.before.if2.false)
-    (c.outputs-agree.ensures
+    (c.outputs_agree_lem.ensures
     ∙ ap (all (λ (o : Entry). agrees_first o (entries_of w))) (payments-made (payments_of w) _ _ c.before.before.payments-block.ensures c.before.made_of.ensures))
     (parts_good w own entries payments)
 

@@ -50,7 +50,7 @@ returns-3 c =
     flags-payments start.args.w (search rules) (search rules) _ _ _ _
     c.before.before.before.limit-of.ensures
     c.before.before.payments-end.ensures
-    c.before.payments-ascend.ensures
+    c.before.payments_ascend.ensures
     c.payments-good.ensures
 
 pub payments-sound-spec : {M : Type 1} → statement M

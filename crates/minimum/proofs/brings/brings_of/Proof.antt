@@ -27,7 +27,7 @@ no-bring-requires : tie.Need-no-bring-requires invariant-loop decreases-loop
 no-bring-requires c κs = search rules
 
 loop-holds : tie.Need-loop-init invariant-loop decreases-loop
-loop-holds c = (search rules, c.before.before.before.before.requires.0.few-expected, c.before.before.before.before.requires.0.few-pending, search (rules, mapped_length), ap (replicate 128) c.no-bring.ensures)
+loop-holds c = (search rules, c.before.before.before.before.requires.0.few_expected, c.before.before.before.before.requires.0.few_pending, search (rules, mapped_length), ap (replicate 128) c.no-bring.ensures)
 
 mul-entry : tie.Need-overflow-mul-entry invariant-loop decreases-loop
 mul-entry c = search rules

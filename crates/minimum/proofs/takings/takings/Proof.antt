@@ -64,7 +64,7 @@ loop-holds : tie.Need-loop-init invariant-loop decreases-loop
 loop-holds c =
     let start = c.before.before.before.before.before.before.before.before.before.before.before.before.before.before.before.before in (
       search rules,
-      start.requires.few-pending,
+      start.requires.few_pending,
       search (rules, mapped_length),
       (
         mapped_length _ c.before.before.before.before.before.before.before.before.before.before.before.before.standing-of.result.here most_references c.before.before.before.before.before.before.before.before.before.before.before.before.standing-of.type-inv.1.1.0.1.0.1,

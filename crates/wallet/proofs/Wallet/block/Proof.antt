@@ -25,7 +25,7 @@ returns c =
 after-block-requires : tie.Need-after-block-requires
 after-block-requires c κs =
     let start = c.before.before.before in
-    (tested start.args.self.pool start.args.b (sym c.before.block-answer.ensures ∙ c.if1.false)).sound-before
+    (tested start.args.self.pool start.args.b (sym c.before.block-answer.ensures ∙ c.if1.false)).sound_before
 
 returns-2 : tie.Need-returns-2
 returns-2 c =
@@ -42,8 +42,8 @@ movement-requires c κs =
     let passed = sym c.before.before.before.before.before.block-answer.ensures ∙ c.before.before.before.before.if1.false in
     let room = leb (length (entries_booked pool (view_block start.args.b))) most_references in
     let next = next_fits_lem room _ _ _ c.before.before.before.after_block.ensures c.before.if2.false in (
-      (tested pool start.args.b passed).sound-before,
-      subst (λ (p : Pool). T (good p)) (sym next.1) (bookable pool start.args.b passed next.0).sound-after,
+      (tested pool start.args.b passed).sound_before,
+      subst (λ (p : Pool). T (good p)) (sym next.1) (bookable pool start.args.b passed next.0).sound_after,
     )
 
 returns-3 : tie.Need-returns-3
@@ -53,9 +53,9 @@ returns-3 c =
     let passed = sym c.before.before.before.before.before.before.block-answer.ensures ∙ c.before.before.before.before.before.if1.false in
     let room = leb (length (entries_booked pool (view_block start.args.b))) most_references in
     let next = next_fits_lem room _ _ _ c.before.before.before.before.after_block.ensures c.before.before.if2.false in
-    let after = subst (λ (p : Pool). T (good p)) (sym next.1) (bookable pool start.args.b passed next.0).sound-after in
+    let after = subst (λ (p : Pool). T (good p)) (sym next.1) (bookable pool start.args.b passed next.0).sound_after in
     block_booked start.args.self start.args.b _ _ passed next.0 next.1
-    (moved_signed pool c.before.before.before.before.after_block.result.pool c.movement.result (tested pool start.args.b passed).sound-before after c.movement.ensures)
+    (moved_signed pool c.before.before.before.before.after_block.result.pool c.movement.result (tested pool start.args.b passed).sound_before after c.movement.ensures)
 
 pub block_spec : {M : Type 1} → statement M
 block_spec =

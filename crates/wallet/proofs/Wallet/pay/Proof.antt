@@ -23,13 +23,13 @@ after-payment-requires c κs =
     let start = c.before.before.before in
     let pool = start.args.self.pool in
     let k = payable pool start.args.t (sym c.before.pay-answer.ensures ∙ c.if1.false) in
-    (k.sound-before, lt→ltb pool.paying most_payments k.room)
+    (k.sound_before, lt→ltb pool.paying most_payments k.room)
 
 movement-requires : tie.Need-movement-requires
 movement-requires c κs =
     let start = c.before.before.before.before in
     let k = payable start.args.self.pool start.args.t (sym c.before.before.pay-answer.ensures ∙ c.before.if1.false) in
-    (k.sound-before, subst (λ (p : Pool). T (good p)) (sym c.after-payment.ensures) k.sound-after)
+    (k.sound_before, subst (λ (p : Pool). T (good p)) (sym c.after-payment.ensures) k.sound_after)
 
 returns-2 : tie.Need-returns-2
 returns-2 c =
@@ -37,9 +37,9 @@ returns-2 c =
     let passed = sym c.before.before.before.pay-answer.ensures ∙ c.before.before.if1.false in
     let booked = c.before.after-payment.ensures in
     let k = payable start.args.self.pool start.args.t passed in
-    let after = subst (λ (p : Pool). T (good p)) (sym booked) k.sound-after in
+    let after = subst (λ (p : Pool). T (good p)) (sym booked) k.sound_after in
     pay_booked start.args.self start.args.t _ _ passed booked
-    (moved_signed start.args.self.pool c.before.after-payment.result c.movement.result k.sound-before after c.movement.ensures)
+    (moved_signed start.args.self.pool c.before.after-payment.result c.movement.result k.sound_before after c.movement.ensures)
 
 pub pay-spec : {M : Type 1} → statement M
 pay-spec =

@@ -19,12 +19,12 @@ after-rollback-requires : tie.Need-after-rollback-requires
 after-rollback-requires c κs =
     let pool = c.before.before.before.args.self.pool in
     let k = returnable pool (sym c.before.back-answer.ensures ∙ c.if1.false) in
-    (k.sound-before, lt→ltb 0 pool.below k.some_below)
+    (k.sound_before, lt→ltb 0 pool.below k.some_below)
 
 movement-requires : tie.Need-movement-requires
 movement-requires c κs =
     let k = returnable c.before.before.before.before.args.self.pool (sym c.before.before.back-answer.ensures ∙ c.before.if1.false) in
-    (k.sound-before, subst (λ (p : Pool). T (good p)) (sym c.after-rollback.ensures) k.sound-after)
+    (k.sound_before, subst (λ (p : Pool). T (good p)) (sym c.after-rollback.ensures) k.sound_after)
 
 returns-2 : tie.Need-returns-2
 returns-2 c =
@@ -32,9 +32,9 @@ returns-2 c =
     let passed = sym c.before.before.before.back-answer.ensures ∙ c.before.before.if1.false in
     let booked = c.before.after-rollback.ensures in
     let k = returnable self.pool passed in
-    let after = subst (λ (p : Pool). T (good p)) (sym booked) k.sound-after in
+    let after = subst (λ (p : Pool). T (good p)) (sym booked) k.sound_after in
     back_booked self _ _ passed booked
-    (moved_signed self.pool c.before.after-rollback.result c.movement.result k.sound-before after c.movement.ensures)
+    (moved_signed self.pool c.before.after-rollback.result c.movement.result k.sound_before after c.movement.ensures)
 
 pub roll-back-spec : {M : Type 1} → statement M
 roll-back-spec =

@@ -88,7 +88,7 @@ transactions-agree-requires c κs =
     let b = asked.before.args.b in
     let sound : T (good w) = held asked.good-pool.result (good w) asked.good-pool.ensures (not-false asked.good-pool.result looked.before.if1.false) in
     let shaped : T (good_block b) = held looked.good-block.result (good_block b) looked.good-block.ensures (not-false looked.good-block.result passed.if2.false) in
-    ((laid_out_block_facts b (good_block_facts b shaped).0).count_fits, (good_layout w sound).few-payments)
+    ((laid_out_block_facts b (good_block_facts b shaped).0).count_fits, (good_layout w sound).few_payments)
 
 returns-4 : tie.Need-returns-4
 returns-4 c =
@@ -110,9 +110,9 @@ returns-4 c =
     found.before.sought.ensures
     in
     let new : T (not (unspent_made w b)) = failed found.any_found.result (unspent_made w b) told c.before.before.before.if3.false in
-    let outputs : c.before.before.outputs-agree.result ≡ outputs_agree w b = c.before.before.outputs-agree.ensures ∙ outputs_told w b _ sound found.before.before.before.before.before.made_of.ensures in
+    let outputs : c.before.before.outputs_agree_lem.result ≡ outputs_agree w b = c.before.before.outputs_agree_lem.ensures ∙ outputs_told w b _ sound found.before.before.before.before.before.made_of.ensures in
     let payments : c.before.transactions-agree.result ≡ payments_agree w b = c.before.transactions-agree.ensures in
-    sym (block_6 w b sound shaped new (held (not c.before.before.outputs-agree.result || not c.before.transactions-agree.result) (not (outputs_agree w b) || not (payments_agree w b)) (λ i. not (outputs i) || not (payments i)) c.if4.true))
+    sym (block_6 w b sound shaped new (held (not c.before.before.outputs_agree_lem.result || not c.before.transactions-agree.result) (not (outputs_agree w b) || not (payments_agree w b)) (λ i. not (outputs i) || not (payments i)) c.if4.true))
 
 returns-5 : tie.Need-returns-5
 returns-5 c =
@@ -134,9 +134,9 @@ returns-5 c =
     found.before.sought.ensures
     in
     let new : T (not (unspent_made w b)) = failed found.any_found.result (unspent_made w b) told c.before.before.before.if3.false in
-    let outputs : c.before.before.outputs-agree.result ≡ outputs_agree w b = c.before.before.outputs-agree.ensures ∙ outputs_told w b _ sound found.before.before.before.before.before.made_of.ensures in
+    let outputs : c.before.before.outputs_agree_lem.result ≡ outputs_agree w b = c.before.before.outputs_agree_lem.ensures ∙ outputs_told w b _ sound found.before.before.before.before.before.made_of.ensures in
     let payments : c.before.transactions-agree.result ≡ payments_agree w b = c.before.transactions-agree.ensures in
-    sym (block_0 w b sound shaped new (failed (not c.before.before.outputs-agree.result || not c.before.transactions-agree.result) (not (outputs_agree w b) || not (payments_agree w b)) (λ i. not (outputs i) || not (payments i)) c.if4.false))
+    sym (block_0 w b sound shaped new (failed (not c.before.before.outputs_agree_lem.result || not c.before.transactions-agree.result) (not (outputs_agree w b) || not (payments_agree w b)) (λ i. not (outputs i) || not (payments i)) c.if4.false))
 
 pub block-answer-spec : {M : Type 1} → statement M
 block-answer-spec =

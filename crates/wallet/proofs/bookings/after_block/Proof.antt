@@ -27,13 +27,13 @@ array-share-prefix-own : tie.Need-array-share-prefix-own
 array-share-prefix-own c =
     let start = c.before.before.before.before.before in
     let places = good_layout start.args.w start.requires in
-    omega (arith, places.own-length, places.few-own)
+    omega (arith, places.own_length, places.few_own)
 
 slice-aggregate-own-of : tie.Need-slice-aggregate-own-of
 slice-aggregate-own-of c =
     let start = c.before.before.before.before.before.before in
     let places = good_layout start.args.w start.requires in
-    omega (arith, length-take start.args.w.owns start.args.w.own, places.own-length, places.few-own)
+    omega (arith, length-take start.args.w.owns start.args.w.own, places.own_length, places.few_own)
 
 own-of-requires : tie.Need-own-of-requires
 own-of-requires c κs = search rules
