@@ -41,7 +41,7 @@ pub(crate) fn held_marked(held: Held) -> bool
 }
 
 // An entry after a block, which may make it as an own output and may spend it.
-pub(crate) fn held_after_lem(held: Held, made: bool, gone: bool) -> Held
+pub(crate) fn held_after(held: Held, made: bool, gone: bool) -> Held
     ensures { (result.entry ≡ held.entry) × (result.utxo ≡ raised held.utxo ((marked 0 held.utxo || made) && not gone)) × (result.expected ≡ raised held.expected (marked 0 held.expected && not made)) }
 {
     let unspent = mark_present(held.utxo);

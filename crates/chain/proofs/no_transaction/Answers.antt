@@ -12,17 +12,7 @@ use Rattle.chain.specs.View.{no_number, no_reference, no_output, no_transaction}
 use Rattle.chain.specs.Checks.{no_transaction_tests}
 use Rattle.chain.specs.declared.Transaction.{Transaction}
 use borrow.Author.Rules.{rules}
-use Rattle.chain.proofs.no_transaction.Statement.{statement}
-use Rattle.chain.proofs.no_transaction.Tie as tie
-
-no-number-requires : tie.Need-no-number-requires
-no-number-requires c κs = search rules
-
-inputs-end-requires : tie.Need-inputs-end-requires
-inputs-end-requires c κs = search rules
-
-outputs-end-requires : tie.Need-outputs-end-requires
-outputs-end-requires c κs = search rules
+use Rattle.chain.proofs.no_transaction.Goals as goal
 
 -- the flags of the code, joined
 flags-none :
@@ -35,16 +25,11 @@ flags-none :
 flags-none t li lo a b d p q r =
     joined_every a (eqb t.takes 0 ∷ eqb t.makes 0 ∷ b ∷ d ∷ []) ∙ rw (p, q, r) (no_transaction_tests t li lo)
 
-returns : tie.Need-returns
+pub returns : goal.returns
 returns c =
-    let start = c.before.before.before.before.before.before.before in
-    let inputs : length start.args.t.inputs ≡ most_inputs = search (rules, mapped_length) in
-    let outputs : length start.args.t.outputs ≡ most_outputs = search (rules, mapped_length) in
-    flags-none start.args.t inputs outputs _ _ _
-    c.before.before.before.before.before.before.no_number.ensures
-    c.before.inputs-end.ensures
-    c.outputs-end.ensures
-
-pub no-transaction-spec : {M : Type 1} → statement M
-no-transaction-spec =
-    tie.close (tie.spec no-number-requires inputs-end-requires outputs-end-requires returns)
+    let inputs : length c.args.t.inputs ≡ most_inputs = search (rules, mapped_length) in
+    let outputs : length c.args.t.outputs ≡ most_outputs = search (rules, mapped_length) in
+    flags-none c.args.t inputs outputs _ _ _
+    c.no_number-number.ensures
+    c.inputs_end-inputs_stop.ensures
+    c.outputs_end-outputs_stop.ensures

@@ -14,8 +14,7 @@ use Rattle.chain.specs.View.{no_reference, no_output, good_transaction}
 use Rattle.chain.specs.Checks.{good_transaction_tests, takes_too_many, makes_too_many}
 use Rattle.chain.specs.declared.Transaction.{Transaction}
 use borrow.Author.Rules.{rules}
-use Rattle.chain.proofs.good_transaction.Statement.{statement}
-use Rattle.chain.proofs.good_transaction.Tie as tie
+use Rattle.chain.proofs.good_transaction.Goals as goal
 
 -- the flags of the code, joined
 flags-good :
@@ -30,48 +29,19 @@ flags-good :
 flags-good t li lo ht hm a b d e f p q r s u =
     joined_every (leb fewest_inputs t.takes) (a ∷ b ∷ d ∷ e ∷ f ∷ []) ∙ rw (p, q, r, s, u) (good_transaction_tests t li lo ht hm)
 
-returns : tie.Need-returns
-returns c = sym (takes_too_many c.before.args.t (search rules))
+pub returns-then-takes-gt-MOST_INPUTS : goal.returns-then-takes-gt-MOST_INPUTS
+returns-then-takes-gt-MOST_INPUTS c = sym (takes_too_many c.args.t (search rules))
 
-returns-2 : tie.Need-returns-2
-returns-2 c = sym (makes_too_many c.before.before.args.t (search rules))
+pub returns-then-makes-gt-MOST_OUTPUTS : goal.returns-then-makes-gt-MOST_OUTPUTS
+returns-then-makes-gt-MOST_OUTPUTS c = sym (makes_too_many c.args.t (search rules))
 
-inputs-ascend-requires : tie.Need-inputs-ascend-requires
-inputs-ascend-requires c κs = search rules
-
-inputs-end-requires : tie.Need-inputs-end-requires
-inputs-end-requires c κs = search rules
-
-outputs-ascend-requires : tie.Need-outputs-ascend-requires
-outputs-ascend-requires c κs = search rules
-
-outputs-end-requires : tie.Need-outputs-end-requires
-outputs-end-requires c κs = search rules
-
-amounts-fit-requires : tie.Need-amounts-fit-requires
-amounts-fit-requires c κs = search rules
-
-returns-3 : tie.Need-returns-3
-returns-3 c =
-    let start = c.before.before.before.before.before.before.before.before.before in
-    let inputs : length start.args.t.inputs ≡ most_inputs = search (rules, mapped_length) in
-    let outputs : length start.args.t.outputs ≡ most_outputs = search (rules, mapped_length) in
-    flags-good start.args.t inputs outputs (search rules) (search rules) _ _ _ _ _
-    c.before.before.before.before.inputs-ascend.ensures
-    c.before.before.before.inputs-end.ensures
-    c.before.before.outputs-ascend.ensures
-    c.before.outputs-end.ensures
-    c.amounts-fit.ensures
-
-pub good-transaction-spec : {M : Type 1} → statement M
-good-transaction-spec =
-    tie.close
-    (tie.spec
-    returns
-    returns-2
-    inputs-ascend-requires
-    inputs-end-requires
-    outputs-ascend-requires
-    outputs-end-requires
-    amounts-fit-requires
-    returns-3)
+pub returns : goal.returns
+returns c =
+    let inputs : length c.args.t.inputs ≡ most_inputs = search (rules, mapped_length) in
+    let outputs : length c.args.t.outputs ≡ most_outputs = search (rules, mapped_length) in
+    flags-good c.args.t inputs outputs (search rules) (search rules) _ _ _ _ _
+    c.inputs_ascend-inputs_rise.ensures
+    c.inputs_end-inputs_stop.ensures
+    c.outputs_ascend-outputs_rise.ensures
+    c.outputs_end-outputs_stop.ensures
+    c.amounts_fit-fit.ensures

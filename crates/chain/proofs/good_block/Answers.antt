@@ -12,8 +12,7 @@ use Rattle.chain.specs.View.{no_transaction, good_transaction, good_block, befor
 use Rattle.chain.specs.Checks.{good_block_tests, count_too_many}
 use Rattle.chain.specs.declared.Block.{Block}
 use borrow.Author.Rules.{rules}
-use Rattle.chain.proofs.good_block.Statement.{statement}
-use Rattle.chain.proofs.good_block.Tie as tie
+use Rattle.chain.proofs.good_block.Goals as goal
 
 -- the flags of the code, joined
 flags-good :
@@ -26,33 +25,13 @@ flags-good :
 flags-good b places fits g s r p q u =
     joined_every g (s ∷ r ∷ []) ∙ rw (p, q, u) (good_block_tests b places fits)
 
-returns : tie.Need-returns
-returns c = sym (count_too_many c.before.args.b (search rules))
+pub returns-then-count-gt-MOST_TRANSACTIONS : goal.returns-then-count-gt-MOST_TRANSACTIONS
+returns-then-count-gt-MOST_TRANSACTIONS c = sym (count_too_many c.args.b (search rules))
 
-transactions-good-requires : tie.Need-transactions-good-requires
-transactions-good-requires c κs = search rules
-
-transactions-end-requires : tie.Need-transactions-end-requires
-transactions-end-requires c κs = search rules
-
-transactions-ascend-requires : tie.Need-transactions-ascend-requires
-transactions-ascend-requires c κs = search rules
-
-returns-2 : tie.Need-returns-2
-returns-2 c =
-    let start = c.before.before.before.before.before in
-    let places : length start.args.b.transactions ≡ most_transactions = search (rules, mapped_length) in
-    flags-good start.args.b places (search rules) _ _ _
-    c.before.before.transactions-good.ensures
-    c.before.transactions-end.ensures
-    c.transactions-ascend.ensures
-
-pub good-block-spec : {M : Type 1} → statement M
-good-block-spec =
-    tie.close
-    (tie.spec
-    returns
-    transactions-good-requires
-    transactions-end-requires
-    transactions-ascend-requires
-    returns-2)
+pub returns : goal.returns
+returns c =
+    let places : length c.args.b.transactions ≡ most_transactions = search (rules, mapped_length) in
+    flags-good c.args.b places (search rules) _ _ _
+    c.transactions_good-good.ensures
+    c.transactions_end-stop.ensures
+    c.transactions_ascend-rise.ensures
