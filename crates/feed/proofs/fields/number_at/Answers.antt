@@ -17,13 +17,13 @@ overflow_mul-high c =
 pub overflow_add-value : goal.overflow_add-value
 overflow_add-value c =
     let room = from_room c.args.bytes.now c.args.place c.args.width c.loop-i.value c.loop-i.i c.loop-i.invariant (search rules) (search rules) in
-    omega (arith, c.byte_at-low.type-inv)
+    omega (arith, c.byte_at-low.type_inv)
 
 -- src/fields.rt:33:5
 pub loop-i-preserved : goal.loop-i-preserved
 loop-i-preserved c =
     from_step c.args.bytes.now c.args.place c.args.width c.loop-i.value c.loop-i.i c.byte_at-low.result
-    c.loop-i.invariant (search rules) c.byte_at-low.ensures (omega (arith, c.byte_at-low.type-inv))
+    c.loop-i.invariant (search rules) c.byte_at-low.ensures (omega (arith, c.byte_at-low.type_inv))
 
 -- src/fields.rt:27:1
 pub returns : goal.returns
