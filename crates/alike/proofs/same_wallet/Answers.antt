@@ -7,18 +7,7 @@ use Rattle.sets.specs.Sets.{same_list}
 use Rattle.sets.specs.Walks.{joined, joined_every}
 use Rattle.wallet.specs.declared.Wallet.{Wallet}
 use Rattle.alike.specs.Alike.{alike, alike_held, alike_payment}
-use borrow.Author.Rules.{rules}
-use Rattle.alike.proofs.same_wallet.Statement.{statement}
-use Rattle.alike.proofs.same_wallet.Tie as tie
-
-same-own-requires : tie.Need-same-own-requires
-same-own-requires c κs = search rules
-
-same-entries-requires : tie.Need-same-entries-requires
-same-entries-requires c κs = search rules
-
-same-payments-requires : tie.Need-same-payments-requires
-same-payments-requires c κs = search rules
+use Rattle.alike.proofs.same_wallet.Goals as goal
 
 -- the flags of the code, joined
 flags-alike :
@@ -47,16 +36,9 @@ flags-alike w v own entries payments p q r =
     ∷ [])
     ∙ rw (p, q, r)
 
-returns : tie.Need-returns
+pub returns : goal.returns
 returns c =
-    let paid = c.before.before.before.before.before.before.before.before in
-    let owned = paid.before.before in
-    let start = owned.before.before.before.before.before.before.before.before.before in
-    flags-alike start.args.w start.args.v _ _ _
-    owned.same-own.ensures
-    paid.before.same_entries.ensures
-    paid.same_payments.ensures
-
-pub same-wallet-spec : {M : Type 1} → statement M
-same-wallet-spec =
-    tie.close (tie.spec same-own-requires same-entries-requires same-payments-requires returns)
+    flags-alike c.args.w c.args.v _ _ _
+    c.same_own-own.ensures
+    c.same_entries-entries.ensures
+    c.same_payments-payments.ensures
