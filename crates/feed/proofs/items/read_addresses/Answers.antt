@@ -1,4 +1,4 @@
-use Prim.Native.Nat.{ℕ, ◌-◌}
+use Prim.Native.Nat.{ℕ}
 use mathlib.Core.Path.{refl, subst, ◌∙◌}
 use mathlib.Core.Option.{none}
 use native.Mathlib.Omega.{arith}
