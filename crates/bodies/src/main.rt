@@ -1,6 +1,8 @@
 // Prints how bodies are read: for each of a list on standard input its kind, its length, the paper's answer and the place of
 // the fault. An item of the list is a kind, a mark, a length in two bytes, little endian, and the body; with mark 1 every
 // cut of the body is read, the empty one first, with mark 0 the whole body alone.
+#![tactic(auto)]
+
 ghost use Rattle.std.specs.Prelude.{◌≤◌, IfOk, length};
 
 use feed::bodies::Body;
