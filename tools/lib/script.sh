@@ -45,12 +45,11 @@ native() {
     esac
 }
 
-# Sets `toolchain` and `emulator`, for a machine that is not x86-64. No setting of the caller's changes what is run.
+# Sets `toolchain` and `emulator`, for a machine that is not x86-64. No setting of the emulator changes what is run.
 find_emulator() {
     need_rt
     guide=$(rt doc 2>/dev/null) || die "the command rt does not say where its toolchain is"
-    toolchain=${guide%/docs/*}/on/$machine/toolchain
-    emulator=$toolchain/bin/qemu-x86_64
-    [ -x "$emulator" ] || die "the toolchain has no emulator for this machine, $machine"
+    toolchain=${guide%/*}/toolchain
+    emulator=$(command -v qemu-x86_64) || die "this machine, $machine, needs the command qemu-x86_64 on the PATH"
     for word in $(env | sed -n 's/^\(QEMU_[A-Za-z0-9_]*\)=.*/\1/p'); do unset "$word"; done
 }

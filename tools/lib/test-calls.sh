@@ -45,8 +45,8 @@ calls() {
     echo $? >"$room/status"
     one_line "bench: a closed output" 2 'bench/run: standard output is closed'
     try "$project/tools/check-refusals"
-    judge "check-refusals: no logs" 1 <(echo '0 passed, 0 failed') \
-        'check-refusals: target/must-fail has no log: rt must-fail or rt ci writes them'
+    judge "check-refusals: no log" 1 <(echo '0 passed, 0 failed') \
+        'check-refusals: target/ci.log has no edit: .ci/run writes it, or name a file with what rt ci or rt must-fail said'
     "$here/tools/check-links" >/dev/full 2>/dev/null
     result "check-links: a full disk" "$([ $? != 0 ] || echo 'status 0')"
 }
