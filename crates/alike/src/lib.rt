@@ -1,5 +1,7 @@
 // Whether two wallets are alike in every place, used or not, and whether a list holds nothing in any place. The steps and
 // queries need neither; the programs that test them do.
+#![tactic(auto)]
+
 ghost use Rattle.std.specs.Prelude.{◌≡◌, eqb};
 ghost use Rattle.alike.specs.Alike.{alike, alike_entry, alike_held, alike_payment, no_entries, no_entry, no_payments};
 ghost use Rattle.chain.specs.View.{no_transaction};

@@ -1,4 +1,6 @@
 // Whether a wallet struct is sound: laid out as the pool asks, and sound by the rules.
+#![tactic(auto)]
+
 ghost use Rattle.std.specs.Prelude.{◌≡◌, suc, ◌+◌, ◌^◌, ◌≤◌, eqb, drop, take};
 ghost use Rattle.audit.specs.Audit.{agrees_first, entries_part, held_test, payment_test, payments_part};
 ghost use Rattle.flat.specs.Flat.{made_in};

@@ -1,4 +1,6 @@
 // The present state's sets and their worth, read off the pool. Every function takes any struct.
+#![tactic(auto)]
+
 ghost use Rattle.std.specs.Prelude.{cond, ◌≡◌, leb, take};
 ghost use Rattle.balance.specs.Worth.{worth_within};
 ghost use Rattle.flat.specs.Flat.{made_in, made_of};

@@ -1,4 +1,6 @@
 // Transactions and blocks by value, and whether they are shaped as the paper says.
+#![tactic(auto)]
+
 ghost use Rattle.std.specs.Prelude.{◌≡◌, ◌≤◌, leb, take, drop};
 ghost use Rattle.chain.specs.View.{before_struct, good_block, good_transaction, no_number, no_output, no_reference, no_transaction, same_struct, zero_number, zero_output, zero_reference, zero_transaction};
 ghost use Rattle.rules.specs.Chain.{before_number, before_output, before_reference, same_number, same_output, same_reference, shaped_own};

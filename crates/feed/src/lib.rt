@@ -1,5 +1,7 @@
 // The reader of a feed: rows first (the check of a whole feed, the parts that its rows name), then bodies (own list, block,
 // payment, rollback), each field by field.
+#![tactic(auto)]
+
 pub mod bodies;
 mod fields;
 pub mod items;

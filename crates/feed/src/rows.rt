@@ -193,6 +193,7 @@ pub fn check(feed: &[u8]) -> bool
 }
 
 // How many rows a feed has; none if it is refused.
+#[tactic(auto, using(crate::specs::Rows::count_formed, crate::specs::Rows::count_refused))]
 pub fn rows(feed: &[u8]) -> usize
     ensures { result ≡ row_count feed.now }
 {

@@ -1,5 +1,7 @@
 // Blocks and payments laid flat: what they spend and make as arrays with a count, and where each reference of one array
 // stands in another. Every function takes any struct: counts past the arrays' ends read as the whole arrays.
+#![tactic(auto)]
+
 ghost use Rattle.std.specs.Prelude.{cond, ◌≡◌, min, eqb};
 ghost use Rattle.flat.specs.Flat.{zero_entry};
 ghost use Rattle.sets.specs.Sets.{any};

@@ -1,1 +1,2 @@
 // The feed's format. All of this crate is in specs/.
+#![tactic(auto)]

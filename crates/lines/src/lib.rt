@@ -1,4 +1,6 @@
 // The sheet's text: from a feed's bytes to the sheet's bytes.
+#![tactic(auto)]
+
 ghost use Rattle.std.specs.Prelude.{◌≡◌, ◌≤◌, length};
 ghost use Rattle.lines.specs.Sheet.{sheet};
 ghost use Rattle.lines.specs.Placed.{placed};

@@ -1,5 +1,7 @@
 // The wallet as the code holds it: each reference and each payment once, with a mark for every held state in which it
 // stands. Mark k is bit k of a word, and bit 0 is the present state.
+#![tactic(auto)]
+
 use chain::Transaction;
 use rules::{Entry, MOST_OWN, MOST_PAYMENTS, MOST_REFERENCES};
 

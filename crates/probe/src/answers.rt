@@ -1,8 +1,9 @@
 // What every step and every query answers to a wallet.
-use crate::text::put_small;
+use crate::text::{Text, put_small};
 use alike::same_wallet;
 use chain::{Block, Transaction};
 use rules::{MOST_TRANSACTIONS, Number, Reference};
+use std::io::Result;
 use wallet::{Step, Wallet};
 
 // Stands in the place of an answer that refuses and does not give back the very wallet.
@@ -45,32 +46,32 @@ fn of_step(before: Wallet, came: Step) -> u32 {
 }
 
 // Block, payment, rollback.
-fn put_steps(t: &mut [u8], at: usize, w: Wallet) -> usize {
-    let block = put_small(t, at, of_step(w, w.block(empty_block())));
-    let pay = put_small(t, block, of_step(w, w.pay(some_payment())));
+fn put_steps(t: &mut Text, at: usize, w: Wallet) -> Result<usize> {
+    let block = put_small(t, at, of_step(w, w.block(empty_block())))?;
+    let pay = put_small(t, block, of_step(w, w.pay(some_payment())))?;
     put_small(t, pay, of_step(w, w.roll_back()))
 }
 
 // Available, total, minimum, all three, held.
-fn put_amounts(t: &mut [u8], at: usize, w: Wallet) -> usize {
-    let available = put_small(t, at, w.available().answer);
-    let total = put_small(t, available, w.total().answer);
-    let least = put_small(t, total, minimum::minimum(w).answer);
-    let three = put_small(t, least, minimum::balances(w).answer);
+fn put_amounts(t: &mut Text, at: usize, w: Wallet) -> Result<usize> {
+    let available = put_small(t, at, w.available().answer)?;
+    let total = put_small(t, available, w.total().answer)?;
+    let least = put_small(t, total, minimum::minimum(w).answer)?;
+    let three = put_small(t, least, minimum::balances(w).answer)?;
     put_small(t, three, w.held().answer)
 }
 
 // UTxO, expected, available, pending.
-fn put_lists(t: &mut [u8], at: usize, w: Wallet) -> usize {
-    let utxo = put_small(t, at, w.utxo_list().answer);
-    let expected = put_small(t, utxo, w.expected_list().answer);
-    let available = put_small(t, expected, w.available_list().answer);
+fn put_lists(t: &mut Text, at: usize, w: Wallet) -> Result<usize> {
+    let utxo = put_small(t, at, w.utxo_list().answer)?;
+    let expected = put_small(t, utxo, w.expected_list().answer)?;
+    let available = put_small(t, expected, w.available_list().answer)?;
     put_small(t, available, w.pending_list().answer)
 }
 
 // All twelve.
-pub(crate) fn put_answers(t: &mut [u8], at: usize, w: Wallet) -> usize {
-    let steps = put_steps(t, at, w);
-    let amounts = put_amounts(t, steps, w);
+pub(crate) fn put_answers(t: &mut Text, at: usize, w: Wallet) -> Result<usize> {
+    let steps = put_steps(t, at, w)?;
+    let amounts = put_amounts(t, steps, w)?;
     put_lists(t, amounts, w)
 }

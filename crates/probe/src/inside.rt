@@ -2,10 +2,11 @@
 use crate::answers::put_answers;
 use crate::damage::{applies, damaged};
 use crate::events::{Told, row_event, unopened, within};
-use crate::text::{put, put_all, put_next, put_number, put_serial, put_small};
+use crate::text::{Text, put, put_all, put_next, put_number, put_serial, put_small};
 use chain::{Block, Transaction};
 use flat::Made;
 use rules::{Entry, MOST_REFERENCES, MOST_TRANSACTIONS};
+use std::io::Result;
 use wallet::Wallet;
 
 const LAST_DAMAGE: u32 = 17;
@@ -17,7 +18,7 @@ struct After {
     wallet: Wallet,
 }
 
-fn put_kind(t: &mut [u8], at: usize, kind: u8) -> usize {
+fn put_kind(t: &mut Text, at: usize, kind: u8) -> Result<usize> {
     match kind {
         1 => put_all(t, at, b" own"),
         2 => put_all(t, at, b" block"),
@@ -27,97 +28,97 @@ fn put_kind(t: &mut [u8], at: usize, kind: u8) -> usize {
 }
 
 // Row, kind, the body's reading, its fault's place, answer, payments in the minimum, held states.
-fn put_head(t: &mut [u8], at: usize, n: usize, kind: u8, told: Told) -> usize {
+fn put_head(t: &mut Text, at: usize, n: usize, kind: u8, told: Told) -> Result<usize> {
     let w = told.wallet;
     let least = minimum::minimum(w);
     let held = w.held();
-    let row = put_number(t, at, n as u64);
-    let word = put_kind(t, row, kind);
-    let reading = put_small(t, word, told.reading);
-    let place = put_next(t, reading, told.place as u64);
-    let answer = put_small(t, place, told.answer);
-    let count = put_small(t, answer, least.payments);
-    let states = put_next(t, count, held.amount);
+    let row = put_number(t, at, n as u64)?;
+    let word = put_kind(t, row, kind)?;
+    let reading = put_small(t, word, told.reading)?;
+    let place = put_next(t, reading, told.place as u64)?;
+    let answer = put_small(t, place, told.answer)?;
+    let count = put_small(t, answer, least.payments)?;
+    let states = put_next(t, count, held.amount)?;
     put(t, states, b'\n')
 }
 
-fn put_entry(t: &mut [u8], at: usize, entry: Entry) -> usize {
+fn put_entry(t: &mut Text, at: usize, entry: Entry) -> Result<usize> {
     let reference = entry.reference;
-    let space = put(t, at, b' ');
-    let number = put_serial(t, space, reference.number);
-    let dot = put(t, number, b'.');
-    let index = put_number(t, dot, reference.index as u64);
-    let colon = put(t, index, b':');
-    let address = put_number(t, colon, entry.address as u64);
-    let next = put(t, address, b':');
+    let space = put(t, at, b' ')?;
+    let number = put_serial(t, space, reference.number)?;
+    let dot = put(t, number, b'.')?;
+    let index = put_number(t, dot, reference.index as u64)?;
+    let colon = put(t, index, b':')?;
+    let address = put_number(t, colon, entry.address as u64)?;
+    let next = put(t, address, b':')?;
     put_number(t, next, entry.amount)
 }
 
 fn put_entries(
-    t: &mut [u8],
+    t: &mut Text,
     start: usize,
     entries: [Entry; MOST_REFERENCES],
     counted: usize,
-) -> usize {
+) -> Result<usize> {
     let count = within(counted, MOST_REFERENCES);
     let mut at = start;
     let mut i = 0;
     while i < count {
-        at = put_entry(t, at, entries[i]);
+        at = put_entry(t, at, entries[i])?;
         i += 1;
     }
-    at
+    Ok(at)
 }
 
 // A set's name and its entries, on a line.
-fn put_set(t: &mut [u8], at: usize, name: &[u8], list: Made) -> usize {
+fn put_set(t: &mut Text, at: usize, name: &[u8], list: Made) -> Result<usize> {
     let entries = list.entries;
-    let named = put_all(t, at, name);
-    let listed = put_entries(t, named, entries, list.count);
+    let named = put_all(t, at, name)?;
+    let listed = put_entries(t, named, entries, list.count)?;
     put(t, listed, b'\n')
 }
 
-fn put_transaction(t: &mut [u8], at: usize, transaction: Transaction) -> usize {
-    let next = put(t, at, b' ');
+fn put_transaction(t: &mut Text, at: usize, transaction: Transaction) -> Result<usize> {
+    let next = put(t, at, b' ')?;
     put_serial(t, next, transaction.number)
 }
 
 fn put_payments(
-    t: &mut [u8],
+    t: &mut Text,
     start: usize,
     transactions: [Transaction; MOST_TRANSACTIONS],
     counted: usize,
-) -> usize {
+) -> Result<usize> {
     let count = within(counted, MOST_TRANSACTIONS);
     let mut at = start;
     let mut i = 0;
     while i < count {
-        at = put_transaction(t, at, transactions[i]);
+        at = put_transaction(t, at, transactions[i])?;
         i += 1;
     }
-    at
+    Ok(at)
 }
 
-fn put_pending(t: &mut [u8], at: usize, list: Block) -> usize {
+fn put_pending(t: &mut Text, at: usize, list: Block) -> Result<usize> {
     let transactions = list.transactions;
-    let named = put_all(t, at, b"pending");
-    let listed = put_payments(t, named, transactions, list.count);
+    let named = put_all(t, at, b"pending")?;
+    let listed = put_payments(t, named, transactions, list.count)?;
     put(t, listed, b'\n')
 }
 
 // The present sets, a line each.
-fn put_sets(t: &mut [u8], at: usize, w: Wallet) -> usize {
+fn put_sets(t: &mut Text, at: usize, w: Wallet) -> Result<usize> {
     let utxo = w.utxo_list().list;
     let expected = w.expected_list().list;
     let available = w.available_list().list;
     let pending = w.pending_list().list;
-    let one = put_set(t, at, b"utxo", utxo);
-    let two = put_set(t, one, b"expected", expected);
-    let three = put_set(t, two, b"available", available);
+    let one = put_set(t, at, b"utxo", utxo)?;
+    let two = put_set(t, one, b"expected", expected)?;
+    let three = put_set(t, two, b"available", available)?;
     put_pending(t, three, pending)
 }
 
-fn put_events(feed: &[u8], t: &mut [u8], start: usize) -> After {
+fn put_events(feed: &[u8], t: &mut Text, start: usize) -> Result<After> {
     let count = feed::rows::count_in(feed);
     let mut w = unopened();
     let mut at = start;
@@ -127,39 +128,39 @@ fn put_events(feed: &[u8], t: &mut [u8], start: usize) -> After {
         let kind = feed::rows::kind_in(feed, n);
         let told = row_event(feed, n, w);
         w = told.wallet;
-        at = put_head(t, at, n, kind, told);
-        at = put_sets(t, at, w);
+        at = put_head(t, at, n, kind, told)?;
+        at = put_sets(t, at, w)?;
         i = n;
     }
-    After { at, wallet: w }
+    Ok(After { at, wallet: w })
 }
 
-fn put_damage(t: &mut [u8], at: usize, w: Wallet, damage: u32) -> usize {
+fn put_damage(t: &mut Text, at: usize, w: Wallet, damage: u32) -> Result<usize> {
     let sound = w.pool;
     let fits = applies(sound, damage);
     if !fits {
-        return at;
+        return Ok(at);
     }
     let pool = damaged(sound, damage);
-    let word = put_all(t, at, b"damaged");
-    let number = put_small(t, word, damage);
-    let answers = put_answers(t, number, Wallet { pool });
+    let word = put_all(t, at, b"damaged")?;
+    let number = put_small(t, word, damage)?;
+    let answers = put_answers(t, number, Wallet { pool })?;
     put(t, answers, b'\n')
 }
 
-fn put_damages(t: &mut [u8], start: usize, w: Wallet) -> usize {
+fn put_damages(t: &mut Text, start: usize, w: Wallet) -> Result<usize> {
     let mut at = start;
     let mut damage = 1;
     while damage <= LAST_DAMAGE {
-        at = put_damage(t, at, w, damage);
+        at = put_damage(t, at, w, damage)?;
         damage += 1;
     }
-    at
+    Ok(at)
 }
 
 // The inside text of a feed that was checked.
-pub(crate) fn put_inside(feed: &[u8], t: &mut [u8], at: usize) -> usize {
-    let after = put_events(feed, t, at);
+pub(crate) fn put_inside(feed: &[u8], t: &mut Text, at: usize) -> Result<usize> {
+    let after = put_events(feed, t, at)?;
     let wallet = after.wallet;
     put_damages(t, after.at, wallet)
 }

@@ -4,11 +4,13 @@
 //     m    the minimum after the last event, worked out so many times over, and its number of payments
 //     s    the length of the feed's sheet, worked out so many times over
 // Anything else is an unknown mode.
-ghost use Rattle.std.specs.Prelude.{◌≡◌, ◌≤◌, length};
+#![tactic(auto)]
+
+ghost use Rattle.std.specs.Prelude.{◌≡◌, ◌≤◌, IfOk, length};
 
 use inside::put_inside;
-use libc::STDIN_FILENO;
-use text::{put_all, write_out};
+use std::io::{Read, Result, Stdin};
+use text::{Text, empty_text, put_all, write_out};
 use times::{put_length, put_minimum};
 
 mod answers;
@@ -50,7 +52,7 @@ fn count_of(a: u8, b: u8, c: u8, d: u8) -> u64 {
 }
 
 // The text of a mode, as far as it is not written out already, and where it ends.
-fn put_mode(mode: u8, count: u64, feed: &[u8], t: &mut [u8]) -> usize {
+fn put_mode(mode: u8, count: u64, feed: &[u8], t: &mut Text) -> Result<usize> {
     if mode == SHEET {
         return put_length(feed, t, 0, count);
     }
@@ -68,7 +70,7 @@ fn put_mode(mode: u8, count: u64, feed: &[u8], t: &mut [u8]) -> usize {
     }
 }
 
-fn put_answer(input: &[u8], t: &mut [u8]) -> usize {
+fn put_answer(input: &[u8], t: &mut Text) -> Result<usize> {
     if input.len() < HEAD_BYTES {
         return put_all(t, 0, b"unknown mode\n");
     }
@@ -76,10 +78,26 @@ fn put_answer(input: &[u8], t: &mut [u8]) -> usize {
     put_mode(input[0], count, &input[HEAD_BYTES..], t)
 }
 
-fn main() {
+// Reads until the buffer is full or the input ends, and answers with how many bytes it put at the buffer's start.
+fn read_full(input: Stdin, buffer: &mut [u8]) -> Result<usize>
+    ensures { IfOk result (λ n. n ≤ length buffer.new) }
+{
+    let mut from = input;
+    let mut done = 0;
+    while done < buffer.len() {
+        let n = from.read(&mut buffer[done..])?;
+        if n == 0 {
+            break;
+        }
+        done += n;
+    }
+    Ok(done)
+}
+
+fn main(rt: HostRuntime) -> Result<()> {
     let mut input = room();
-    let mut text = io::buffer();
-    let n = io::read_full(STDIN_FILENO, &mut input);
-    let at = put_answer(&input[..n], &mut text);
-    write_out(&text, at);
+    let mut text = empty_text(rt.stdout());
+    let n = read_full(rt.stdin(), &mut input)?;
+    let at = put_answer(&input[..n], &mut text)?;
+    write_out(&text, at)
 }

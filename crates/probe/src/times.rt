@@ -2,9 +2,10 @@
 ghost use Rattle.std.specs.Prelude.{◌≡◌, ◌≤◌, length};
 
 use crate::events::{last_wallet, unopened};
-use crate::text::{put, put_number, put_small};
+use crate::text::{Text, put, put_number, put_small};
 use lines::MOST_SHEET;
 use minimum::Least;
+use std::io::Result;
 use wallet::Wallet;
 
 // The minimum so many times over. A sound wallet never gets the answer 9.
@@ -27,10 +28,10 @@ fn asked(sound: Wallet, count: u64) -> Least {
 }
 
 // The minimum after the last event of a feed that was checked, and its payments.
-pub(crate) fn put_minimum(feed: &[u8], t: &mut [u8], at: usize, count: u64) -> usize {
+pub(crate) fn put_minimum(feed: &[u8], t: &mut Text, at: usize, count: u64) -> Result<usize> {
     let least = asked(last_wallet(feed), count);
-    let amount = put_number(t, at, least.amount);
-    let payments = put_small(t, amount, least.payments);
+    let amount = put_number(t, at, least.amount)?;
+    let payments = put_small(t, amount, least.payments)?;
     put(t, payments, b'\n')
 }
 
@@ -66,9 +67,9 @@ fn written(feed: &[u8], out: &mut [u8], count: u64) -> usize {
 }
 
 // The length of a feed's sheet.
-pub(crate) fn put_length(feed: &[u8], t: &mut [u8], at: usize, count: u64) -> usize {
+pub(crate) fn put_length(feed: &[u8], t: &mut Text, at: usize, count: u64) -> Result<usize> {
     let mut out = blank();
     let long = written(feed, &mut out, count);
-    let next = put_number(t, at, long as u64);
+    let next = put_number(t, at, long as u64)?;
     put(t, next, b'\n')
 }

@@ -8,6 +8,7 @@ use chain::Block;
 use flat::Made;
 use minimum::{Least, ThreeBalances};
 use rules::MOST_TRANSACTIONS;
+use std::io::{Result, Stdout};
 use wallet::{Listed, Pending, Wallet};
 
 // Whether the numbers that came are the first of a line. One that a line does not have is 0.
@@ -30,28 +31,28 @@ fn signed(text: &[u8], at: usize, movement: i64) -> bool {
 }
 
 // ? done ANSWER MOVEMENT
-fn done(text: &[u8], at: usize, desk: Desk) -> bool {
+fn done(to: Stdout, text: &[u8], at: usize, desk: Desk) -> Result<bool> {
     let answer = desk.answer as u64;
-    tell(b": answer #", [answer, 0, 0, 0]);
-    moved(desk.movement);
+    tell(to, b": answer #", [answer, 0, 0, 0])?;
+    moved(to, desk.movement)?;
     let came = [answer, size(desk.movement), 0, 0];
-    wanted(text, at, came) & signed(text, at, desk.movement)
+    Ok(wanted(text, at, came) & signed(text, at, desk.movement))
 }
 
 // ? refused ANSWER: no movement, and the very wallet that came in
-fn refused(text: &[u8], at: usize, desk: Desk) -> bool {
+fn refused(to: Stdout, text: &[u8], at: usize, desk: Desk) -> Result<bool> {
     let answer = desk.answer as u64;
     let same = same_wallet(desk.before, desk.wallet);
-    tell(b": answer #", [answer, 0, 0, 0]);
-    moved(desk.movement);
+    tell(to, b": answer #", [answer, 0, 0, 0])?;
+    moved(to, desk.movement)?;
     if same {
-        say(b", wallet the same");
+        say(to, b", wallet the same")?;
     }
-    same & (desk.movement == 0) & wanted(text, at, [answer, 0, 0, 0])
+    Ok(same & (desk.movement == 0) & wanted(text, at, [answer, 0, 0, 0]))
 }
 
 // ? case ANSWER AVAILABLE TOTAL MOVEMENT
-fn case(text: &[u8], at: usize, desk: Desk) -> bool {
+fn case(to: Stdout, text: &[u8], at: usize, desk: Desk) -> Result<bool> {
     let w = desk.wallet;
     let came = [
         desk.answer as u64,
@@ -59,24 +60,24 @@ fn case(text: &[u8], at: usize, desk: Desk) -> bool {
         w.total().amount,
         size(desk.movement),
     ];
-    tell(b": answer #, available #, total #", came);
-    moved(desk.movement);
-    wanted(text, at, came) & signed(text, at, desk.movement)
+    tell(to, b": answer #, available #, total #", came)?;
+    moved(to, desk.movement)?;
+    Ok(wanted(text, at, came) & signed(text, at, desk.movement))
 }
 
 // ? available AMOUNT, and so total, held, unspent, expected and pending
-fn amount(text: &[u8], at: usize, came: u64) -> bool {
-    tell(b": #", [came, 0, 0, 0]);
-    wanted(text, at, [came, 0, 0, 0])
+fn amount(to: Stdout, text: &[u8], at: usize, came: u64) -> Result<bool> {
+    tell(to, b": #", [came, 0, 0, 0])?;
+    Ok(wanted(text, at, [came, 0, 0, 0]))
 }
 
 // ? like PLACE: the very wallet that is kept there
-fn like(w: Wallet, there: Wallet) -> bool {
+fn like(to: Stdout, w: Wallet, there: Wallet) -> Result<bool> {
     let same = same_wallet(w, there);
     if same {
-        say(b": yes");
+        say(to, b": yes")?;
     }
-    same
+    Ok(same)
 }
 
 fn first_of(list: Made) -> rules::Reference {
@@ -86,21 +87,21 @@ fn first_of(list: Made) -> rules::Reference {
 }
 
 // ? only unspent REFERENCE, or expected, or available: a list of one entry
-fn only(text: &[u8], at: usize, came: Listed) -> bool {
+fn only(to: Stdout, text: &[u8], at: usize, came: Listed) -> Result<bool> {
     let list = came.list;
     let first = first_of(list);
     let serial = first.number.serial;
     let index = first.index as u64;
-    tell(b": # entry, #.#", [list.count as u64, serial, index, 0]);
+    tell(to, b": # entry, #.#", [list.count as u64, serial, index, 0])?;
     let one = (list.count == 1) & (came.answer == 0);
-    one & wanted(text, at, [serial, index, 0, 0])
+    Ok(one & wanted(text, at, [serial, index, 0, 0]))
 }
 
-fn only_of(text: &[u8], at: usize, w: Wallet) -> bool {
+fn only_of(to: Stdout, text: &[u8], at: usize, w: Wallet) -> Result<bool> {
     match byte_at(text, further(at, 7)) {
-        b'u' => only(text, at, w.utxo_list()),
-        b'e' => only(text, at, w.expected_list()),
-        _ => only(text, at, w.available_list()),
+        b'u' => only(to, text, at, w.utxo_list()),
+        b'e' => only(to, text, at, w.expected_list()),
+        _ => only(to, text, at, w.available_list()),
     }
 }
 
@@ -115,51 +116,56 @@ fn number_of(list: Block, place: usize) -> u64 {
 }
 
 // ? numbers LOW HIGH: a list of two pending payments
-fn numbers(text: &[u8], at: usize, came: Pending) -> bool {
+fn numbers(to: Stdout, text: &[u8], at: usize, came: Pending) -> Result<bool> {
     let list = came.list;
     let low = number_of(list, 0);
     let high = number_of(list, 1);
-    tell(b": # payments, # and #", [list.count as u64, low, high, 0]);
+    tell(
+        to,
+        b": # payments, # and #",
+        [list.count as u64, low, high, 0],
+    )?;
     let two = (list.count == 2) & (came.answer == 0);
-    two & wanted(text, at, [low, high, 0, 0])
+    Ok(two & wanted(text, at, [low, high, 0, 0]))
 }
 
 // ? minimum AMOUNT PAYMENTS PENDING: the minimum, the fewest payments that reach it, and how many are pending
-fn least(text: &[u8], at: usize, least: Least, pending: u64) -> bool {
+fn least(to: Stdout, text: &[u8], at: usize, least: Least, pending: u64) -> Result<bool> {
     let came = [least.amount, least.payments as u64, pending, 0];
-    tell(b": # with # of # payments", came);
-    wanted(text, at, came) & (least.answer == 0)
+    tell(to, b": # with # of # payments", came)?;
+    Ok(wanted(text, at, came) & (least.answer == 0))
 }
 
 // ? balances AVAILABLE TOTAL MINIMUM PAYMENTS: what one call gives
-fn three(text: &[u8], at: usize, three: ThreeBalances) -> bool {
+fn three(to: Stdout, text: &[u8], at: usize, three: ThreeBalances) -> Result<bool> {
     let came = [
         three.available,
         three.total,
         three.minimum,
         three.payments as u64,
     ];
-    tell(b": available #, total #, minimum # with #", came);
-    wanted(text, at, came) & (three.answer == 0)
+    tell(to, b": available #, total #, minimum # with #", came)?;
+    Ok(wanted(text, at, came) & (three.answer == 0))
 }
 
 // ? sound: no call answers 9
-fn sound(w: Wallet) -> bool {
+fn sound(to: Stdout, w: Wallet) -> Result<bool> {
     let nines = std::num::wrapping_add_u64(steps(w).nines, queries(w).nines);
-    tell(b": # of 12 calls answered 9", [nines, 0, 0, 0]);
-    nines == 0
+    tell(to, b": # of 12 calls answered 9", [nines, 0, 0, 0])?;
+    Ok(nines == 0)
 }
 
 // ? faulty: 9 from each call, and nothing else
-fn faulty(w: Wallet) -> bool {
+fn faulty(to: Stdout, w: Wallet) -> Result<bool> {
     let stepped = steps(w);
     let queried = queries(w);
     let nines = std::num::wrapping_add_u64(stepped.nines, queried.nines);
     tell(
+        to,
         b": # of 12 calls answered 9, # of 9 queries empty, # of 3 wallets the same",
         [nines, queried.still, stepped.still, 0],
-    );
-    (nines == 12) & (queried.still == 9) & (stepped.still == 3)
+    )?;
+    Ok((nines == 12) & (queried.still == 9) & (stepped.still == 3))
 }
 
 // The number that a check asks for by its letter.
@@ -176,28 +182,28 @@ fn asked(w: Wallet, letter: u8) -> u64 {
 }
 
 // A check by its letter.
-fn passes(text: &[u8], at: usize, desk: Desk, there: Wallet) -> bool {
+fn passes(to: Stdout, text: &[u8], at: usize, desk: Desk, there: Wallet) -> Result<bool> {
     let w = desk.wallet;
     let letter = byte_at(text, further(at, 2));
     match letter {
-        b'd' => done(text, at, desk),
-        b'r' => refused(text, at, desk),
-        b'c' => case(text, at, desk),
-        b'l' => like(w, there),
-        b'o' => only_of(text, at, w),
-        b'n' => numbers(text, at, w.pending_list()),
-        b'm' => least(text, at, minimum::minimum(w), asked(w, b'p')),
-        b'b' => three(text, at, minimum::balances(w)),
-        b's' => sound(w),
-        b'f' => faulty(w),
-        _ => amount(text, at, asked(w, letter)),
+        b'd' => done(to, text, at, desk),
+        b'r' => refused(to, text, at, desk),
+        b'c' => case(to, text, at, desk),
+        b'l' => like(to, w, there),
+        b'o' => only_of(to, text, at, w),
+        b'n' => numbers(to, text, at, w.pending_list()),
+        b'm' => least(to, text, at, minimum::minimum(w), asked(w, b'p')),
+        b'b' => three(to, text, at, minimum::balances(w)),
+        b's' => sound(to, w),
+        b'f' => faulty(to, w),
+        _ => amount(to, text, at, asked(w, letter)),
     }
 }
 
 // The line of a check.
-pub(crate) fn check(text: &[u8], at: usize, desk: Desk, there: Wallet) -> Desk {
-    say_label(text, at);
-    let good = passes(text, at, desk, there);
-    verdict(text, at, good);
-    desk
+pub(crate) fn check(to: Stdout, text: &[u8], at: usize, desk: Desk, there: Wallet) -> Result<Desk> {
+    say_label(to, text, at)?;
+    let good = passes(to, text, at, desk, there)?;
+    verdict(to, text, at, good)?;
+    Ok(desk)
 }

@@ -6,6 +6,7 @@ use crate::checks::check;
 use crate::hand::by_hand;
 use crate::line::{byte_at, seen};
 use crate::say::say_strange;
+use std::io::{Result, Stdout};
 use wallet::{Step, Wallet};
 
 // One own address more than a wallet takes.
@@ -82,21 +83,27 @@ fn taken(w: Wallet, text: &[u8], at: usize) -> Step {
     }
 }
 
-fn strange(text: &[u8], at: usize, desk: Desk) -> Desk {
-    say_strange(text, at);
-    desk
+fn strange(to: Stdout, text: &[u8], at: usize, desk: Desk) -> Result<Desk> {
+    say_strange(to, text, at)?;
+    Ok(desk)
 }
 
 // The desk after a line. `there` is the wallet kept in the place that the line names.
-pub(crate) fn after_line(text: &[u8], at: usize, desk: Desk, there: Wallet) -> Desk {
+pub(crate) fn after_line(
+    to: Stdout,
+    text: &[u8],
+    at: usize,
+    desk: Desk,
+    there: Wallet,
+) -> Result<Desk> {
     let w = desk.wallet;
     match byte_at(text, at) {
-        b'o' | b'b' | b'p' | b'r' => stepped(w, taken(w, text, at)),
-        b'f' => holding(there),
-        b'w' => holding(by_hand(w, text, at)),
-        b'?' => check(text, at, desk, there),
-        b'k' | b' ' | b'#' | b'\n' => desk,
-        _ => strange(text, at, desk),
+        b'o' | b'b' | b'p' | b'r' => Ok(stepped(w, taken(w, text, at))),
+        b'f' => Ok(holding(there)),
+        b'w' => Ok(holding(by_hand(w, text, at))),
+        b'?' => check(to, text, at, desk, there),
+        b'k' | b' ' | b'#' | b'\n' => Ok(desk),
+        _ => strange(to, text, at, desk),
     }
 }
 

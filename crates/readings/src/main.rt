@@ -12,10 +12,12 @@
 //     ? done 0 -60 | reading 7: a payment    a check: what is wanted, and what its line says first (checks.rt)
 //     # a comment
 // The first letter of a word decides; the others are for the reader.
-ghost use Rattle.std.specs.Prelude.{◌≡◌, ◌<◌, length};
+#![tactic(auto)]
 
-use libc::STDIN_FILENO;
+ghost use Rattle.std.specs.Prelude.{◌≡◌, ◌<◌, ◌≤◌, IfOk, length};
+
 use line::behind;
+use std::io::{Read, Result, Stdin, Stdout};
 
 mod build;
 mod calls;
@@ -49,26 +51,43 @@ fn place_in(text: &[u8], at: usize) -> usize
 }
 
 // All lines, one after another, each on what the one before it left.
-fn run(text: &[u8]) {
+fn run(to: Stdout, text: &[u8]) -> Result<()> {
     let mut desk = desk::start();
     let first = desk.wallet;
     let mut kept = [first; PLACES];
     let mut i = 0;
     while i < text.len() {
         let place = place_in(text, i);
-        let next = desk::after_line(text, i, desk, kept[place]);
+        let next = desk::after_line(to, text, i, desk, kept[place])?;
         desk = next;
         kept[place] = desk::kept_after(text, i, desk, kept[place]);
         let line = behind(text, i);
         if line <= i {
-            return;
+            return Ok(());
         }
         i = line;
     }
+    Ok(())
 }
 
-fn main() {
+// Reads until the buffer is full or the input ends, and answers with how many bytes it put at the buffer's start.
+fn read_full(input: Stdin, buffer: &mut [u8]) -> Result<usize>
+    ensures { IfOk result (λ n. n ≤ length buffer.new) }
+{
+    let mut from = input;
+    let mut done = 0;
+    while done < buffer.len() {
+        let n = from.read(&mut buffer[done..])?;
+        if n == 0 {
+            break;
+        }
+        done += n;
+    }
+    Ok(done)
+}
+
+fn main(rt: HostRuntime) -> Result<()> {
     let mut input = room();
-    let n = io::read_full(STDIN_FILENO, &mut input);
-    run(&input[..n]);
+    let n = read_full(rt.stdin(), &mut input)?;
+    run(rt.stdout(), &input[..n])
 }

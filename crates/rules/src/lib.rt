@@ -1,5 +1,6 @@
 // The rules' plain things as the code holds them. Each width is the range that the paper's table of sizes gives;
 // the rules themselves are in specs/.
+#![tactic(auto)]
 
 // A transaction number. Nothing but its own two tests, same_number and before_number, looks inside.
 #[derive(Clone, Copy)]

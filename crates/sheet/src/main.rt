@@ -1,10 +1,12 @@
 // Reads a feed on standard input and writes its sheet on standard output.
-ghost use Rattle.std.specs.Prelude.{◌≡◌, suc, length};
+#![tactic(auto)]
+
+ghost use Rattle.std.specs.Prelude.{◌≡◌, ◌≤◌, IfOk, suc, length};
 ghost use Rattle.format.specs.Feed.{most_bytes};
 ghost use Rattle.lines.specs.Lengths.{most_sheet};
 
-use libc::{STDIN_FILENO, STDOUT_FILENO};
 use lines::MOST_SHEET;
+use std::io::{Read, Result, Stdin, Write};
 
 // One byte more than the longest feed, so that a longer one is seen to be too long.
 const MOST_INPUT: usize = 65_537;
@@ -22,11 +24,27 @@ fn output() -> [u8; MOST_SHEET]
     [0; MOST_SHEET]
 }
 
-fn main() {
+// Reads until the buffer is full or the input ends, and answers with how many bytes it put at the buffer's start.
+fn read_full(input: Stdin, buffer: &mut [u8]) -> Result<usize>
+    ensures { IfOk result (λ n. n ≤ length buffer.new) }
+{
+    let mut from = input;
+    let mut done = 0;
+    while done < buffer.len() {
+        let n = from.read(&mut buffer[done..])?;
+        if n == 0 {
+            break;
+        }
+        done += n;
+    }
+    Ok(done)
+}
+
+fn main(rt: HostRuntime) -> Result<()> {
     let mut feed = input();
-    let size = io::read_full(STDIN_FILENO, &mut feed);
+    let size = read_full(rt.stdin(), &mut feed)?;
     let mut sheet = output();
     let written = lines::sheet_of(&feed[..size], &mut sheet);
     let long = written.length;
-    io::write_all(STDOUT_FILENO, &sheet[..long]);
+    rt.stdout().write_all(&sheet[..long])
 }

@@ -1,5 +1,6 @@
 // The minimum valued from tables of mark words, proved of the rules in specs/. Here are the tables' rows. A choice of
 // pending payments is a mark word over them, and so is every word in the tables.
+#![tactic(auto)]
 
 // Of a pending payment: what it takes and adds, the payments it cannot go with, and the payments it cannot go without.
 #[derive(Clone, Copy)]

@@ -1,4 +1,5 @@
 // The walk over the choices of payments, proved to find the least in specs/. Here is what it finds.
+#![tactic(auto)]
 
 // The least amount found so far, with the number of payments that are chosen for it.
 #[derive(Clone, Copy)]

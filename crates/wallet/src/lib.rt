@@ -1,5 +1,7 @@
 // The recorder's core: a wallet by value, its steps and its queries. Every call takes any struct, never traps, and answers
 // as the rules say.
+#![tactic(auto)]
+
 ghost use Rattle.std.specs.Prelude.{true, ◌≡◌, length};
 ghost use Rattle.chain.specs.View as ChainView;
 ghost use Rattle.chain.specs.View.{laid_out_block, view_block, view_transaction};

@@ -5,4 +5,4 @@ use Rattle.feed.specs.declared.items.Answer.{Answer}
 use Rattle.feed.proofs.bodies.fault_or.Goals as goal
 
 pub returns-in-Fault : goal.returns-in-Fault
-returns-in-Fault c = sym (ap (λ (a : Answer). fault_or a c.args.body) c.answer-1.given.1)
+returns-in-Fault c = sym (ap (λ (a : Answer). fault_or a c.args.body) c.in-Fault.is)

@@ -3,4 +3,4 @@ use Rattle.feed.proofs.bodies.nothing_beside.Goals as goal
 
 pub returns : goal.returns
 returns c =
-    λ i. record { body = c.args.body; c.zero_own-own.ensures = c.zero_own-own.ensures i; c.zero_block-block.ensures = c.zero_block-block.ensures i; c.zero_transaction-payment.ensures = c.zero_transaction-payment.ensures i }
+    λ i. record { body = c.args.body; own = c.zero_own-own.ensures i; block = c.zero_block-block.ensures i; payment = c.zero_transaction-payment.ensures i }

@@ -12,15 +12,15 @@ use Rattle.feed.proofs.bodies.read_payment.Goals as goal
 
 pub returns-in_default : goal.returns-in_default
 returns-in_default c =
-    let stop = reading_fault struct_of zero_transaction (read_transaction none c.args.bytes.now 0) c.read_transaction-read.result.answer _ (ap (λ (r : TransactionRead). r.answer) c.read_transaction-read.ensures) c.enum_told-1.given.1 in
+    let stop = reading_fault struct_of zero_transaction (read_transaction none c.args.bytes.now 0) c.read_transaction-read.result.answer _ (ap (λ (r : TransactionRead). r.answer) c.read_transaction-read.ensures) c.in_default.is in
     c.read_transaction-read.ensures ∙ ap transaction_read (stop ∙ sym (pay_exact c.args.bytes.now ∙ exact_fault (length c.args.bytes.now) (read_transaction none c.args.bytes.now 0) _ stop))
 
 pub returns-then-next-bytes : goal.returns-then-next-bytes
 returns-then-next-bytes c =
-    let end = reading_got struct_of zero_transaction (read_transaction none c.args.bytes.now 0) c.read_transaction-read.result.answer c.read_transaction-read.result.transaction _ (ap (λ (r : TransactionRead). r.answer) c.read_transaction-read.ensures) (ap (λ (r : TransactionRead). r.transaction) c.read_transaction-read.ensures) c.answer-1.given.1 in
+    let end = reading_got struct_of zero_transaction (read_transaction none c.args.bytes.now 0) c.read_transaction-read.result.answer c.read_transaction-read.result.transaction _ (ap (λ (r : TransactionRead). r.answer) c.read_transaction-read.ensures) (ap (λ (r : TransactionRead). r.transaction) c.read_transaction-read.ensures) c.in-Read.is in
     c.no_transaction.ensures ∙ ap transaction_read (sym (pay_exact c.args.bytes.now ∙ exact_over (length c.args.bytes.now) (read_transaction none c.args.bytes.now 0) end.0 _ end.1 c.if-next-bytes.true))
 
 pub returns : goal.returns
 returns c =
-    let end = reading_got struct_of zero_transaction (read_transaction none c.args.bytes.now 0) c.read_transaction-read.result.answer c.read_transaction-read.result.transaction _ (ap (λ (r : TransactionRead). r.answer) c.read_transaction-read.ensures) (ap (λ (r : TransactionRead). r.transaction) c.read_transaction-read.ensures) c.answer-1.given.1 in
+    let end = reading_got struct_of zero_transaction (read_transaction none c.args.bytes.now 0) c.read_transaction-read.result.answer c.read_transaction-read.result.transaction _ (ap (λ (r : TransactionRead). r.answer) c.read_transaction-read.ensures) (ap (λ (r : TransactionRead). r.transaction) c.read_transaction-read.ensures) c.in-Read.is in
     c.read_transaction-read.ensures ∙ ap transaction_read (end.1 ∙ sym (pay_exact c.args.bytes.now ∙ exact_got (length c.args.bytes.now) (read_transaction none c.args.bytes.now 0) end.0 _ end.1 c.if-next-bytes.false))

@@ -4,6 +4,5 @@ use lib.ListN.{get_or-eq_default}
 use borrow.Author.Rules.{rules}
 use Rattle.feed.proofs.fields.byte_at.Goals as goal
 
--- src/fields.rt:16:1
 pub returns-else-place-bytes : goal.returns-else-place-bytes
 returns-else-place-bytes c = sym (get_or-eq_default c.args.bytes.now 0 (search rules))

@@ -9,15 +9,14 @@ use Rattle.feed.specs.Fields.{field_fault, field_kept}
 use Rattle.feed.proofs.fields.input_count.Goals as goal
 
 pub returns-in_default : goal.returns-in_default
-returns-in_default c =
-    (
-      field_fault count_width (λ (k : ℕ). leb fewest_inputs k && leb k most_inputs) c.args.bytes.now c.args.place c.number.result _
-          c.number.ensures.0 c.enum_told-1.given.1,
-      tt,
-    )
+returns-in_default c = (
+  field_fault count_width (λ (k : ℕ). leb fewest_inputs k && leb k most_inputs) c.args.bytes.now c.args.place c.number.result _
+      c.number.ensures.0 c.in_default.is,
+  tt,
+)
 
 pub returns : goal.returns
 returns c =
     field_kept count_width (λ (k : ℕ). leb fewest_inputs k && leb k most_inputs) c.args.bytes.now c.args.place c.number.result _ _ _ c.kept.result
-    c.number.ensures c.n-1.given.1 c.kept.ensures
+    c.number.ensures c.in-Number.is c.kept.ensures
     (refl)

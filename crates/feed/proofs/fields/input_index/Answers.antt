@@ -11,16 +11,15 @@ use Rattle.feed.specs.Fields.{field_fault, field_kept, follows_or}
 use Rattle.feed.proofs.fields.input_index.Goals as goal
 
 pub returns-in_default : goal.returns-in_default
-returns-in_default c =
-    (
-      field_fault index_width (follows (input_index_follows c.args.n) (last_of c.args.first c.args.last)) c.args.bytes.now c.args.place c.number.result _
-          c.number.ensures.0 c.enum_told-1.given.1,
-      tt,
-    )
+returns-in_default c = (
+  field_fault index_width (follows (input_index_follows c.args.n) (last_of c.args.first c.args.last)) c.args.bytes.now c.args.place c.number.result _
+      c.number.ensures.0 c.in_default.is,
+  tt,
+)
 
 pub returns : goal.returns
 returns c =
     field_kept index_width (follows (input_index_follows c.args.n) (last_of c.args.first c.args.last)) c.args.bytes.now c.args.place c.number.result _ _ _ c.kept.result
-    c.number.ensures c.i-1.given.1 c.kept.ensures
-    (ap (λ (b : Bool). c.args.first || (not b || ltb c.args.last.index c.i-1.given.0.0)) (c.same_number-same.ensures ∙ ap (λ (m : Number). same_number m c.args.last.number) c.number_of-here.ensures)
+    c.number.ensures c.in-Number.is c.kept.ensures
+    (ap (λ (b : Bool). c.args.first || (not b || ltb c.args.last.index c.in-Number.i)) (c.same_number-same.ensures ∙ ap (λ (m : Number). same_number m c.args.last.number) c.number_of-here.ensures)
     ∙ follows_or (input_index_follows c.args.n) c.args.first c.args.last _)

@@ -10,16 +10,15 @@ use Rattle.feed.specs.Fields.{field_fault, field_kept, follows_or}
 use Rattle.feed.proofs.fields.transaction_number.Goals as goal
 
 pub returns-in_default : goal.returns-in_default
-returns-in_default c =
-    (
-      field_fault number_width (follows number_follows (last_of c.args.first (bearing c.args.last))) c.args.bytes.now c.args.place c.number.result _
-          c.number.ensures.0 c.enum_told-1.given.1,
-      tt,
-    )
+returns-in_default c = (
+  field_fault number_width (follows number_follows (last_of c.args.first (bearing c.args.last))) c.args.bytes.now c.args.place c.number.result _
+      c.number.ensures.0 c.in_default.is,
+  tt,
+)
 
 pub returns : goal.returns
 returns c =
     field_kept number_width (follows number_follows (last_of c.args.first (bearing c.args.last))) c.args.bytes.now c.args.place c.number.result _ _ _ c.kept.result
-    c.number.ensures c.n-1.given.1 c.kept.ensures
+    c.number.ensures c.in-Number.is c.kept.ensures
     (ap (λ (b : Bool). c.args.first || b) (c.before_number-higher.ensures ∙ ap (λ (m : Number). before_number c.args.last m) c.number_of-here.ensures)
     ∙ follows_or number_follows c.args.first (bearing c.args.last) _)

@@ -1,4 +1,4 @@
-use Prim.Native.Nat.{ℕ, ◌-◌}
+use Prim.Native.Nat.{ℕ}
 use mathlib.Core.Path.{refl, subst, ◌∙◌}
 use mathlib.Core.Option.{none}
 use native.Mathlib.Omega.{arith}
@@ -24,7 +24,7 @@ returns-in_default c =
     let last = last_of (eqb c.loop-i.i 0) c.loop-i.last in
     let stop =
     address_field last c.args.bytes.now c.loop-i.at
-    ∙ field_stop address_width (follows ltb last) c.args.bytes.now c.loop-i.at c.address.result _ c.address.ensures.0 c.enum_told-1.given.1
+    ∙ field_stop address_width (follows ltb last) c.args.bytes.now c.loop-i.at c.address.result _ c.address.ensures.0 c.in_default.is
     in
     let whole =
     progress_fault read_address (λ (x : ℕ). x) 0 most_own c.args.bytes.now c.args.place c.args.count c.loop-i.addresses c.loop-i.i last c.loop-i.at c.loop-i.at
@@ -35,7 +35,7 @@ returns-in_default c =
 
 pub overflow_cast-last : goal.overflow_cast-last
 overflow_cast-last c =
-    let small = subst (narrow address_width) c.n-1.given.1 c.address.ensures.1 in
+    let small = subst (narrow address_width) c.in-Number.is c.address.ensures.1 in
     omega arith
 
 pub loop-i-preserved : goal.loop-i-preserved
@@ -45,7 +45,7 @@ loop-i-preserved c =
       search rules,
       progress_turn read_address 0 most_own c.args.bytes.now c.args.place c.args.count c.loop-i.addresses c.loop-i.i c.loop-i.last c.loop-i.at _ _
           c.loop-i.invariant.2 (search rules) (search rules)
-          (address_field last c.args.bytes.now c.loop-i.at ∙ field_got _ c.address.result _ _ c.address.ensures.0 c.n-1.given.1),
+          (address_field last c.args.bytes.now c.loop-i.at ∙ field_got _ c.address.result _ _ c.address.ensures.0 c.in-Number.is),
     )
 
 pub returns : goal.returns

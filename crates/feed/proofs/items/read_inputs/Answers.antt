@@ -1,4 +1,3 @@
-use Prim.Native.Nat.{◌-◌}
 use mathlib.Core.Path.{refl, ap, ◌∙◌}
 use mathlib.Core.Option.{none}
 use lib.Dec.{eqb}
@@ -17,19 +16,18 @@ use Rattle.feed.specs.declared.items.InputRead.{InputRead}
 use Rattle.feed.proofs.items.read_inputs.Goals as goal
 
 pub loop-i-init : goal.loop-i-init
-loop-i-init c =
-    (
-      search rules,
-      refl,
-      progress_begin read_input (λ (x : Reference). x) zero_reference most_inputs c.args.bytes.now c.args.place c.args.count c.zero_reference-zero.result c.zero_reference-zero.ensures,
-    )
+loop-i-init c = (
+  search rules,
+  refl,
+  progress_begin read_input (λ (x : Reference). x) zero_reference most_inputs c.args.bytes.now c.args.place c.args.count c.zero_reference-zero.result c.zero_reference-zero.ensures,
+)
 
 pub returns-in_default : goal.returns-in_default
 returns-in_default c =
     let last = last_of (eqb c.loop-i.i 0) c.loop-i.last in
     let stop =
     reading_fault (λ (x : Reference). x) zero_reference (read_input last c.args.bytes.now c.loop-i.at) c.read_input-read.result.answer _
-    (ap (λ (r : InputRead). r.answer) c.read_input-read.ensures) c.enum_told-1.given.1
+    (ap (λ (r : InputRead). r.answer) c.read_input-read.ensures) c.in_default.is
     in
     let whole =
     progress_fault read_input (λ (x : Reference). x) zero_reference most_inputs c.args.bytes.now c.args.place c.args.count c.loop-i.inputs c.loop-i.i last c.loop-i.at _
@@ -37,7 +35,7 @@ returns-in_default c =
     in
     let parts = known_fault (filled most_inputs zero_reference) (replicate most_inputs zero_reference) (items read_input c.args.count none c.args.bytes.now c.args.place) _ whole in
     λ i. record {
-      answer = (c.enum_told-1.given.1 ∙ parts.0) i;
+      answer = (c.in_default.is ∙ parts.0) i;
       inputs = (ap (λ (x : Reference). replicate most_inputs x) c.zero_reference-zero.ensures ∙ parts.1) i;
     }
 
@@ -49,7 +47,7 @@ loop-i-preserved c =
       progress_turn read_input zero_reference most_inputs c.args.bytes.now c.args.place c.args.count c.loop-i.inputs c.loop-i.i c.loop-i.last c.loop-i.at c.read_input-read.result.input _
           c.loop-i.invariant.2 (search rules) (search rules)
           (item_got zero_reference (read_input last c.args.bytes.now c.loop-i.at) c.read_input-read.result.answer c.read_input-read.result.input _
-          (ap (λ (r : InputRead). r.answer) c.read_input-read.ensures) (ap (λ (r : InputRead). r.input) c.read_input-read.ensures) c.answer-1.given.1),
+          (ap (λ (r : InputRead). r.answer) c.read_input-read.ensures) (ap (λ (r : InputRead). r.input) c.read_input-read.ensures) c.in-Read.is),
     )
 
 pub returns : goal.returns

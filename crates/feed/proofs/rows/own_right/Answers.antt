@@ -8,9 +8,9 @@ use Rattle.feed.proofs.rows.own_right.Goals as goal
 pub returns-in_default : goal.returns-in_default
 returns-in_default c =
     own_flag c.args.feed.now c.body_in-body.result.now c.read_own-read.result.answer 1
-    c.body_in-body.ensures (ap (λ (r : OwnRead). r.answer) c.read_own-read.ensures) (ap answer_number c.enum_told-in_default-1.given.1)
+    c.body_in-body.ensures (ap (λ (r : OwnRead). r.answer) c.read_own-read.ensures) (ap answer_number c.in_default.is)
 
 pub returns : goal.returns
 returns c =
     own_flag c.args.feed.now c.body_in-body.result.now c.read_own-read.result.answer 0
-    c.body_in-body.ensures (ap (λ (r : OwnRead). r.answer) c.read_own-read.ensures) (ap answer_number c.enum_told-1.given.1)
+    c.body_in-body.ensures (ap (λ (r : OwnRead). r.answer) c.read_own-read.ensures) (ap answer_number c.in-Read.is)

@@ -8,14 +8,14 @@ use Rattle.feed.proofs.rows.row.Goals as goal
 pub returns-then-n-lt1 : goal.returns-then-n-lt1
 returns-then-n-lt1 c =
     let none = row_not_found c.args.feed.now c.args.n (row_low c.args.feed.now c.args.n c.if-n-lt1.true) in
-    (sym none.2, sym none.0)
+    record { result_value = sym none.2; found_after = sym none.0 }
 
 pub returns-then-count-n : goal.returns-then-count-n
 returns-then-count-n c =
     let none = row_not_found c.args.feed.now c.args.n (row_high c.args.feed.now c.args.n (omega (arith, c.rows-count.ensures))) in
-    (sym none.2, sym none.0)
+    record { result_value = sym none.2; found_after = sym none.0 }
 
 pub returns : goal.returns
 returns c =
     let there = row_found_lem c.args.feed.now c.args.n (row_there c.args.feed.now c.args.n (omega arith) (omega (arith, c.rows-count.ensures))) in
-    (c.body_in.ensures ∙ sym there.2, sym there.0)
+    record { result_value = c.body_in.ensures ∙ sym there.2; found_after = sym there.0 }

@@ -1,4 +1,3 @@
-use Prim.Native.Nat.{◌-◌}
 use native.Mathlib.Omega.{arith}
 use borrow.Author.Rules.{rules}
 use Rattle.feed.specs.Rows.{rows_start, rows_turn, rows_end}
@@ -11,13 +10,12 @@ pub overflow_add-place : goal.overflow_add-place
 overflow_add-place c = omega (arith, c.length_in-long.ensures.1, c.loop-i.invariant.1)
 
 pub loop-i-preserved : goal.loop-i-preserved
-loop-i-preserved c =
-    (
-      search rules,
-      omega (arith, c.length_in-long.ensures.1, c.loop-i.invariant.1),
-      rows_turn c.args.feed.now c.args.count c.loop-i.i c.loop-i.place c.loop-i.ok c.row_right-here.result c.length_in-long.result _
-          (search rules) c.loop-i.invariant.2 c.row_right-here.ensures c.length_in-long.ensures.0,
-    )
+loop-i-preserved c = (
+  search rules,
+  omega (arith, c.length_in-long.ensures.1, c.loop-i.invariant.1),
+  rows_turn c.args.feed.now c.args.count c.loop-i.i c.loop-i.place c.loop-i.ok c.row_right-here.result c.length_in-long.result _
+      (search rules) c.loop-i.invariant.2 c.row_right-here.ensures c.length_in-long.ensures.0,
+)
 
 pub returns : goal.returns
 returns c =

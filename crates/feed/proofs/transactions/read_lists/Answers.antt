@@ -18,11 +18,11 @@ pub returns-in_default : goal.returns-in_default
 returns-in_default c =
     let whole =
     lists_inputs_fault c.args.number c.args.takes c.args.makes c.args.bytes.now c.args.place _
-    (reading_fault (filled most_inputs zero_reference) (replicate most_inputs zero_reference) (items read_input c.args.takes none c.args.bytes.now c.args.place) c.read_inputs-read.result.answer _ (ap (λ (r : InputsRead). r.answer) c.read_inputs-read.ensures) c.enum_told-1.given.1)
+    (reading_fault (filled most_inputs zero_reference) (replicate most_inputs zero_reference) (items read_input c.args.takes none c.args.bytes.now c.args.place) c.read_inputs-read.result.answer _ (ap (λ (r : InputsRead). r.answer) c.read_inputs-read.ensures) c.in_default.is)
     in
     let parts = known_fault struct_of zero_transaction (read_lists c.args.number c.args.takes c.args.makes c.args.bytes.now c.args.place) _ whole in
     λ i. record {
-      answer = (c.enum_told-1.given.1 ∙ parts.0) i;
+      answer = (c.in_default.is ∙ parts.0) i;
       transaction = (c.zero_transaction-transaction.ensures ∙ parts.1) i;
     }
 
@@ -30,15 +30,15 @@ pub returns-in_default-end : goal.returns-in_default-end
 returns-in_default-end c =
     let ins =
     reading_got (filled most_inputs zero_reference) (replicate most_inputs zero_reference) (items read_input c.args.takes none c.args.bytes.now c.args.place) c.read_inputs-read.result.answer c.read_inputs-read.result.inputs _
-    (ap (λ (r : InputsRead). r.answer) c.read_inputs-read.ensures) (ap (λ (r : InputsRead). r.inputs) c.read_inputs-read.ensures) c.answer-1.given.1
+    (ap (λ (r : InputsRead). r.answer) c.read_inputs-read.ensures) (ap (λ (r : InputsRead). r.inputs) c.read_inputs-read.ensures) c.in-Read.is
     in
     let whole =
     lists_outputs_fault c.args.number c.args.takes c.args.makes c.args.bytes.now c.args.place ins.0 _ ins.1 _
-    (reading_fault (filled most_outputs zero_output) (replicate most_outputs zero_output) (items read_output c.args.makes none c.args.bytes.now _) c.read_outputs-rest.result.answer _ (ap (λ (r : OutputsRead). r.answer) c.read_outputs-rest.ensures) c.enum_told-in_default-end-1.given.1)
+    (reading_fault (filled most_outputs zero_output) (replicate most_outputs zero_output) (items read_output c.args.makes none c.args.bytes.now _) c.read_outputs-rest.result.answer _ (ap (λ (r : OutputsRead). r.answer) c.read_outputs-rest.ensures) c.in_default-end.is)
     in
     let parts = known_fault struct_of zero_transaction (read_lists c.args.number c.args.takes c.args.makes c.args.bytes.now c.args.place) _ whole in
     λ i. record {
-      answer = (c.enum_told-in_default-end-1.given.1 ∙ parts.0) i;
+      answer = (c.in_default-end.is ∙ parts.0) i;
       transaction = (c.zero_transaction-transaction-in_default-end.ensures ∙ parts.1) i;
     }
 
@@ -46,10 +46,10 @@ pub returns : goal.returns
 returns c =
     let ins =
     reading_got (filled most_inputs zero_reference) (replicate most_inputs zero_reference) (items read_input c.args.takes none c.args.bytes.now c.args.place) c.read_inputs-read.result.answer c.read_inputs-read.result.inputs _
-    (ap (λ (r : InputsRead). r.answer) c.read_inputs-read.ensures) (ap (λ (r : InputsRead). r.inputs) c.read_inputs-read.ensures) c.answer-1.given.1
+    (ap (λ (r : InputsRead). r.answer) c.read_inputs-read.ensures) (ap (λ (r : InputsRead). r.inputs) c.read_inputs-read.ensures) c.in-Read.is
     in
     let outs =
     reading_got (filled most_outputs zero_output) (replicate most_outputs zero_output) (items read_output c.args.makes none c.args.bytes.now _) c.read_outputs-rest.result.answer c.read_outputs-rest.result.outputs _
-    (ap (λ (r : OutputsRead). r.answer) c.read_outputs-rest.ensures) (ap (λ (r : OutputsRead). r.outputs) c.read_outputs-rest.ensures) c.end-1.given.1
+    (ap (λ (r : OutputsRead). r.answer) c.read_outputs-rest.ensures) (ap (λ (r : OutputsRead). r.outputs) c.read_outputs-rest.ensures) c.in-Read-end.is
     in
     lists_read c.args.number c.args.takes c.args.makes c.args.bytes.now c.args.place ins.0 _ ins.1 outs.0 _ outs.1 _ _ ins.2 outs.2

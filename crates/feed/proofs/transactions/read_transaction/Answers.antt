@@ -19,37 +19,37 @@ returns-in_default c =
     let last = last_of c.args.first (bearing c.args.last) in
     c.no_transaction.ensures
     ∙ ap transaction_read (number_fault last c.args.bytes.now c.args.place
-    (field_stop number_width (follows number_follows last) c.args.bytes.now c.args.place c.transaction_number.result _ c.transaction_number.ensures.0 c.enum_told-1.given.1))
+    (field_stop number_width (follows number_follows last) c.args.bytes.now c.args.place c.transaction_number.result _ c.transaction_number.ensures.0 c.in_default.is))
 
 pub returns-in_default-input_count : goal.returns-in_default-input_count
 returns-in_default-input_count c =
     let last = last_of c.args.first (bearing c.args.last) in
     c.no_transaction-in_default-input_count.ensures
     ∙ ap transaction_read (input_count_fault last c.args.bytes.now c.args.place _ _
-    (field_got _ c.transaction_number.result _ _ c.transaction_number.ensures.0 c.n-1.given.1)
-    (field_stop count_width (λ (k : ℕ). leb fewest_inputs k && leb k most_inputs) c.args.bytes.now _ c.input_count.result _ c.input_count.ensures.0 c.enum_told-in_default-input_count-1.given.1))
+    (field_got _ c.transaction_number.result _ _ c.transaction_number.ensures.0 c.in-Number.is)
+    (field_stop count_width (λ (k : ℕ). leb fewest_inputs k && leb k most_inputs) c.args.bytes.now _ c.input_count.result _ c.input_count.ensures.0 c.in_default-input_count.is))
 
 pub returns-in_default-up_to : goal.returns-in_default-up_to
 returns-in_default-up_to c =
     let last = last_of c.args.first (bearing c.args.last) in
     c.no_transaction-in_default-up_to.ensures
     ∙ ap transaction_read (output_count_fault last c.args.bytes.now c.args.place _ _
-    (field_got _ c.transaction_number.result _ _ c.transaction_number.ensures.0 c.n-1.given.1) _ _
-    (field_got _ c.input_count.result _ _ c.input_count.ensures.0 c.k-1.given.1)
-    (field_stop count_width (λ (k : ℕ). leb k most_outputs) c.args.bytes.now _ c.up_to.result _ c.up_to.ensures.0 c.enum_told-in_default-up_to-1.given.1))
+    (field_got _ c.transaction_number.result _ _ c.transaction_number.ensures.0 c.in-Number.is) _ _
+    (field_got _ c.input_count.result _ _ c.input_count.ensures.0 c.in-Number-input_count.is)
+    (field_stop count_width (λ (k : ℕ). leb k most_outputs) c.args.bytes.now _ c.up_to.result _ c.up_to.ensures.0 c.in_default-up_to.is))
 
 pub read_lists-requires : goal.read_lists-requires
 read_lists-requires c =
-    let few = rule_holds count_width (λ (k : ℕ). leb fewest_inputs k && leb k most_inputs) c.args.bytes.now _ _ _ (field_got _ c.input_count.result _ _ c.input_count.ensures.0 c.k-1.given.1) in
-    let most = rule_holds count_width (λ (k : ℕ). leb k most_outputs) c.args.bytes.now _ _ _ (field_got _ c.up_to.result _ _ c.up_to.ensures.0 c.m-1.given.1) in
-    (leb→le c.k-1.given.0.0 most_inputs (and_right (leb fewest_inputs c.k-1.given.0.0) (leb c.k-1.given.0.0 most_inputs) few), leb→le c.m-1.given.0.0 most_outputs most)
+    let few = rule_holds count_width (λ (k : ℕ). leb fewest_inputs k && leb k most_inputs) c.args.bytes.now _ _ _ (field_got _ c.input_count.result _ _ c.input_count.ensures.0 c.in-Number-input_count.is) in
+    let most = rule_holds count_width (λ (k : ℕ). leb k most_outputs) c.args.bytes.now _ _ _ (field_got _ c.up_to.result _ _ c.up_to.ensures.0 c.in-Number-up_to.is) in
+    (leb→le c.in-Number-input_count.k most_inputs (and_right (leb fewest_inputs c.in-Number-input_count.k) (leb c.in-Number-input_count.k most_inputs) few), leb→le c.in-Number-up_to.m most_outputs most)
 
 pub returns : goal.returns
 returns c =
     let last = last_of c.args.first (bearing c.args.last) in
     c.read_lists.ensures
-    ∙ ap (λ (n : Number). transaction_read (read_lists n c.k-1.given.0.0 c.m-1.given.0.0 c.args.bytes.now c.m-1.given.0.1.0)) c.number_of-number.ensures
+    ∙ ap (λ (n : Number). transaction_read (read_lists n c.in-Number-input_count.k c.in-Number-up_to.m c.args.bytes.now c.in-Number-up_to.three)) c.number_of-number.ensures
     ∙ ap transaction_read (transaction_lists last c.args.bytes.now c.args.place _ _
-    (field_got _ c.transaction_number.result _ _ c.transaction_number.ensures.0 c.n-1.given.1) _ _
-    (field_got _ c.input_count.result _ _ c.input_count.ensures.0 c.k-1.given.1) _ _
-    (field_got _ c.up_to.result _ _ c.up_to.ensures.0 c.m-1.given.1))
+    (field_got _ c.transaction_number.result _ _ c.transaction_number.ensures.0 c.in-Number.is) _ _
+    (field_got _ c.input_count.result _ _ c.input_count.ensures.0 c.in-Number-input_count.is) _ _
+    (field_got _ c.up_to.result _ _ c.up_to.ensures.0 c.in-Number-up_to.is))

@@ -26,7 +26,7 @@ loop-i-preserved c =
     let here : Transaction = get_or c.args.b.transactions (c.loop-i.i / 8) past_end in
     let live : Bool = ltb (c.loop-i.i % 8) here.makes in
     let within : c.loop-i.i / 8 < length c.args.b.transactions = search rules in
-    let known = each_in _ c.args.b.transactions _ (c.loop-i.i / 8) past_end within c.well_formed.0.1.1.0.1.1 in
+    let known = each_in {A = Transaction} ((Rattle.chain.specs.contracts.Transaction.the_row).own_val) c.args.b.transactions c.well_formed.0.1.1.0.0 (c.loop-i.i / 8) past_end within c.well_formed.0.1.1.0.1.1 in
     let wide : length here.outputs ≡ 8 = search (rules, mapped_length) in
     let more : slots entries_of c.args.b.transactions past_end (c.loop-i.i + 1) ≡ slots entries_of c.args.b.transactions past_end c.loop-i.i ++ one live c.entry_of-entry.result =
     rw c.entry_of-entry.ensures

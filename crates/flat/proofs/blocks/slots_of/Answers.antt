@@ -31,7 +31,7 @@ loop-i-init c = (search rules, search rules, search rules, refl, ap (replicate 1
 pub loop-i-preserved : goal.loop-i-preserved
 loop-i-preserved c =
     let within : c.loop-i.i / 8 < length c.args.payments = search rules in
-    let known = each_in _ c.args.payments _ (c.loop-i.i / 8) past_payment within c.well_formed.0.1.1 in
+    let known = each_in {A = Payment} ((Rattle.pool.specs.contracts.Payment.the_row).own_val) c.args.payments _ (c.loop-i.i / 8) past_payment within c.well_formed.0.1.1 in
     let wide : length (places_of_inputs (get_or c.args.payments (c.loop-i.i / 8) past_payment)) ≡ 8 = search (rules, mapped_length) in
     let more = slots-full c.args.payments c.loop-i.i zero_reference within wide in (
       search rules,

@@ -24,7 +24,7 @@ loop-i-preserved c =
     let here : Transaction = get_or c.args.b.transactions (c.loop-i.i / 8) past_end in
     let live : Bool = ltb (c.loop-i.i % 8) here.takes in
     let within : c.loop-i.i / 8 < length c.args.b.transactions = search rules in
-    let known = each_in _ c.args.b.transactions _ (c.loop-i.i / 8) past_end within c.well_formed.0.1.1.0.1.1 in
+    let known = each_in {A = Transaction} ((Rattle.chain.specs.contracts.Transaction.the_row).own_val) c.args.b.transactions c.well_formed.0.1.1.0.0 (c.loop-i.i / 8) past_end within c.well_formed.0.1.1.0.1.1 in
     let wide : length (get_or c.args.b.transactions (c.loop-i.i / 8) past_end).inputs ≡ 8 = search (rules, mapped_length) in
     let more = slots_taken (λ (t : Transaction). t.takes) (λ (t : Transaction). t.inputs) c.args.b.transactions past_end c.loop-i.i zero_reference within wide in (
       search rules,

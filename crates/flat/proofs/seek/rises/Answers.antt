@@ -15,15 +15,14 @@ loop-i-init c =
     (search rules, search rules, search rules, places, sym (ascending_start before_reference c.args.b.refs))
 
 pub loop-i-preserved : goal.loop-i-preserved
-loop-i-preserved c =
-    (
-      search rules,
-      search rules,
-      search rules,
-      search rules,
-      ascending_step before_reference c.args.b.refs c.loop-i.i _ _ _
-          (search rules) (search rules) c.loop-i.invariant.4 c.before_reference-here.ensures,
-    )
+loop-i-preserved c = (
+  search rules,
+  search rules,
+  search rules,
+  search rules,
+  ascending_step before_reference c.args.b.refs c.loop-i.i _ _ _
+      (search rules) (search rules) c.loop-i.invariant.4 c.before_reference-here.ensures,
+)
 
 pub returns : goal.returns
 returns c =

@@ -1,0 +1,19 @@
+-- The walk behind the entries tells whether nothing stands there. Invariant: the flag, with the places still to come, says
+-- it of all of them.
+use Prim.Native.Nat.{◌≤◌, ◌-◌}
+use mathlib.Core.Path.{◌≡◌}
+use mathlib.Core.Bool.{◌&&◌}
+use lib.ListN.{length, drop}
+use Rattle.sets.specs.Sets.{all}
+use Rattle.rules.specs.Sizes.{most_references}
+use Rattle.pool.specs.Good.{no_held}
+use Rattle.audit.proofs.entries_end.Given as goal
+
+abbrev pub invariant-loop-i : goal.invariant-loop-i
+invariant-loop-i l =
+    (l.i ≤ most_references)
+    × (length l.entries ≡ most_references)
+    × ((l.ok && all no_held (drop l.i l.entries)) ≡ all no_held (drop l.used l.entries))
+
+abbrev pub decreases-loop-i : goal.decreases-loop-i
+decreases-loop-i l = most_references - l.i

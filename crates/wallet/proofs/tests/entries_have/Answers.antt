@@ -1,0 +1,29 @@
+use Prim.Native.Nat.{◌-◌}
+use mathlib.Core.Path.{◌≡◌, refl, ap, ◌∙◌}
+use lib.ListN.{length}
+use Rattle.sets.specs.Sets.{any}
+use Rattle.sets.specs.Walks.{any_step}
+use Rattle.sets.specs.Fill.{take_done}
+use Rattle.rules.specs.Chain.{same_number}
+use Rattle.pool.specs.declared.Held.{Held}
+use borrow.Author.Rules.{rules}
+use Rattle.wallet.proofs.tests.entries_have.Goals as goal
+
+pub loop-i-init : goal.loop-i-init
+loop-i-init c = (search rules, search rules, search rules, refl)
+
+pub loop-i-preserved : goal.loop-i-preserved
+loop-i-preserved c = (
+  search rules,
+  search rules,
+  search rules,
+  any_step (λ (h : Held). same_number c.args.number h.entry.reference.number) c.args.entries c.loop-i.i _ c.loop-i.found _
+      (search rules) c.loop-i.invariant.3 c.same_number-here.ensures,
+)
+
+pub returns : goal.returns
+returns c =
+    let places : length c.args.entries ≡ 128 = search rules in
+    c.loop-i.invariant.3
+    ∙ ap (any (λ (h : Held). same_number c.args.number h.entry.reference.number))
+    (take_done c.args.entries c.args.used 128 _ c.loop-i.i places c.capped-end.ensures (search rules) (search rules))
