@@ -18,7 +18,7 @@ use Rattle.chain.specs.Facts.{laid_out_lem, laid_out_block_lem}
 use Rattle.chain.specs.ViewLaws.{zero_no_transaction}
 use Rattle.format.specs.Bodies as Format
 use Rattle.format.specs.Bodies.{own_body, block_body, pay_body, read_body}
-use Rattle.format.specs.WrittenRead.{own_shaped, block_shaped, payment_shaped}
+use Rattle.format.proofs.WrittenRead.{own_shaped, block_shaped, payment_shaped}
 use Rattle.feed.specs.Structs.{struct_of, places_of}
 use Rattle.feed.specs.Bodies.{own_struct, block_of}
 use Rattle.feed.specs.declared.bodies.Own.{Own}

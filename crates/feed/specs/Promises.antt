@@ -7,7 +7,7 @@ use Rattle.chain.specs.declared.Block.{Block}
 use Rattle.format.specs.Bodies as Format
 use Rattle.format.specs.Bodies.{own_body, block_body, pay_body, back_body, fault_at, read_body, body_answer, body_place}
 use Rattle.format.specs.Feed.{count_in, kind_in, body_in, well_formed, row_kind, row_body}
-use Rattle.format.specs.Rows.{row_found_lem, is_row_lem}
+use Rattle.format.proofs.Rows.{row_found_lem, is_row_lem}
 use Rattle.feed.specs.Bodies.{body_read, body_number, body_fault}
 use Rattle.feed.specs.Rows.{row_found}
 use Rattle.feed.specs.Good.{OwnGood, BlockGood, PaymentGood, own_held, block_held, payment_held}

@@ -11,7 +11,7 @@ use Rattle.sets.specs.Walks.{joined_every, every_fails}
 use Rattle.format.specs.Fields.{number_at}
 use Rattle.format.specs.Bodies.{own_kind, read_body, body_answer}
 use Rattle.format.specs.Feed.{most_bytes, head_bytes, feed_version, fewest_rows, most_rows, version_in, count_in, table_end, kind_in, zero_in, length_in, offset_in, body_in, row_place, kind_fits, row_right, rows_right, well_formed, row_count, is_row, found}
-use Rattle.format.specs.Rows.{form_tests}
+use Rattle.format.proofs.Rows.{form_tests}
 use Rattle.feed.specs.Structs.{answered}
 use Rattle.feed.specs.Bodies.{own_reading, answer_number}
 use Rattle.feed.specs.Whole.{own_told}

@@ -4,12 +4,6 @@ pub mod Feed
 pub mod Writing
 pub mod Numbers
 pub mod Readers
-pub mod Parts
-pub mod ReadWritten
-pub mod WrittenRead
-pub mod FirstFault
-pub mod Rows
 pub mod Loops
-pub mod Accepted
 pub mod Sample
 pub mod Readings

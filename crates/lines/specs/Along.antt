@@ -8,7 +8,7 @@ use Rattle.rules.specs.Steps.{opening}
 use Rattle.format.specs.Bodies as Format
 use Rattle.format.specs.Bodies.{read_body}
 use Rattle.format.specs.Feed.{kind_in, body_in, count_in, row_kind, row_body, well_formed}
-use Rattle.format.specs.Rows.{row_found_lem, is_row_lem}
+use Rattle.format.proofs.Rows.{row_found_lem, is_row_lem}
 use Rattle.wallet.specs.declared.Wallet.{Wallet}
 use Rattle.wallet.specs.declared.Step.{Step}
 use Rattle.wallet.specs.Contract.{viewed, is_sound, Reads}

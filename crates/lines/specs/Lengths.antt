@@ -14,7 +14,7 @@ use Rattle.soundness.specs.Kept.{opening_sound, step_sound}
 use Rattle.soundness.specs.Bounds.{available_bound, total_bound, minimum_bound, movement_bound}
 use Rattle.format.specs.Bodies.{Body, own_body, block_body, pay_body, back_body, fault_at}
 use Rattle.format.specs.Feed.{most_rows, count_in, well_formed, row_count, Event, events}
-use Rattle.format.specs.Rows.{count_of_formed, form_test}
+use Rattle.format.proofs.Rows.{count_of_formed, form_test}
 use Rattle.lines.specs.Sheet.{signed, kind_word, own_word, block_word, pay_word, back_word, head_line, refused_line, line_text, event_step, event_line, lines_from, sheet}
 use Rattle.lines.specs.Decimals.{decimal_few}
 use Rattle.lines.specs.Text.{line_parts_lem}

@@ -9,7 +9,7 @@ use Rattle.rules.specs.States as States
 use Rattle.rules.specs.States.{opened}
 use Rattle.rules.specs.Steps as Steps
 use Rattle.format.specs.Feed.{Event, event_at, numbers_from, count_in, well_formed, events}
-use Rattle.format.specs.Rows.{count_of_formed}
+use Rattle.format.proofs.Rows.{count_of_formed}
 use Rattle.lines.specs.declared.Line.{Line}
 use Rattle.lines.specs.Sheet.{head_line, refused_line, line_text, event_step, event_line, lines_from, sheet}
 

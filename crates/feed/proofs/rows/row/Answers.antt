@@ -1,7 +1,7 @@
 -- The part that the table names and 1, where the row is there; else the empty part and 0.
 use mathlib.Core.Path.{sym, ◌∙◌}
 use native.Mathlib.Omega.{arith}
-use Rattle.format.specs.Rows.{row_found_lem, row_not_found}
+use Rattle.format.proofs.Rows.{row_found_lem, row_not_found}
 use Rattle.feed.specs.Rows.{row_low, row_high, row_there}
 use Rattle.feed.proofs.rows.row.Goals as goal
 

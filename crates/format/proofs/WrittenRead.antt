@@ -17,7 +17,7 @@ use Rattle.format.specs.Bodies.{count_width, index_width, address_width, amount_
 use Rattle.format.specs.Writing.{write_number, write_input, write_output, write_transaction, write_own, write_block, write_payment, write_body, is_byte}
 use Rattle.format.specs.Numbers.{serial_of_number}
 use Rattle.format.specs.Readers.{Outcome}
-use Rattle.format.specs.Parts.{Spelled, spelled_join, Reads, reads_done, reads_map, reads_then, FieldOf, reads_field, ItemOf, ItemsOf, reads_items, anything}
+use Rattle.format.proofs.Parts.{Spelled, spelled_join, Reads, reads_done, reads_map, reads_then, FieldOf, reads_field, ItemOf, ItemsOf, reads_items, anything}
 
 -- ── own addresses
 

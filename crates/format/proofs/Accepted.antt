@@ -8,7 +8,7 @@ use Rattle.rules.specs.Steps.{Refusal, answer_of, Step, payment_refusals, block_
 use Rattle.rules.specs.StepLaws.{given_first, given_later, answer_of_step}
 use Rattle.rules.specs.Reading.{All}
 use Rattle.format.specs.Bodies.{own_body, block_body, pay_body, read_body}
-use Rattle.format.specs.WrittenRead.{own_shaped, block_shaped, payment_shaped}
+use Rattle.format.proofs.WrittenRead.{own_shaped, block_shaped, payment_shaped}
 
 -- where no refusal that is given has the number 1, the answer is not 1
 not_1 : (l : List Refusal) → All (λ r. T r.given → r.number ≡ 1 → ⊥) l → answer_of l ≡ 1 → ⊥

@@ -9,7 +9,7 @@ use Rattle.rules.specs.Chain.{shaped_own}
 use Rattle.format.specs.Fields.{Reading, got, fault}
 use Rattle.format.specs.Bodies.{read_own, own_body, fault_at, own_kind, used_up, read_body, body_answer}
 use Rattle.format.specs.Feed.{most_bytes, head_bytes, feed_version, fewest_rows, most_rows, version_in, count_in, table_end, kind_in, zero_in, length_in, offset_in, body_in, kind_fits, row_right, rows_right, well_formed, row_count, is_row, found, row_kind, row_body, numbers_from, event_at, events, own_in, own_of}
-use Rattle.format.specs.WrittenRead.{own_shaped}
+use Rattle.format.proofs.WrittenRead.{own_shaped}
 
 -- ── what a right row says
 
