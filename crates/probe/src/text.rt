@@ -1,5 +1,5 @@
-// Text on its way out: bytes put into a lent buffer, which is written out whenever it is full. Each call answers with the
-// place behind what it has put.
+// Text on its way out: bytes put into a buffer, which is written out whenever it is full. Each call answers with the place
+// behind what it has put.
 use rules::Number;
 use std::io::{Result, Stdout, Write};
 
