@@ -2,15 +2,6 @@
 
 foreign=x86_64-unknown-linux-gnu
 
-as_root() {
-    if [ "$(id -u)" = 0 ]; then "$@"; else sudo -n "$@"; fi >/dev/null 2>&1
-}
-
-# Says nothing: where it fails, the caller's line says what is missing.
-install() {
-    as_root apt-get update && as_root env DEBIAN_FRONTEND=noninteractive apt-get -y install "$@"
-}
-
 need_rustc() {
     command -v rustc >/dev/null 2>&1 || install rustc ||
         die "there is no rustc, and Debian's package rustc could not be installed"

@@ -36,6 +36,15 @@ need_rt() {
     command -v rt >/dev/null 2>&1 || die "the command rt of the Rattle toolchain is not on the PATH"
 }
 
+as_root() {
+    if [ "$(id -u)" = 0 ]; then "$@"; else sudo -n "$@"; fi >/dev/null 2>&1
+}
+
+# Installs Debian's packages. Says nothing: where it fails, the caller's line says what is missing.
+install() {
+    as_root apt-get update && as_root env DEBIAN_FRONTEND=noninteractive apt-get -y install "$@"
+}
+
 # All programs are x86-64 ones.
 native() {
     machine=$(uname -m)
@@ -50,6 +59,8 @@ find_emulator() {
     need_rt
     guide=$(rt doc 2>/dev/null) || die "the command rt does not say where its toolchain is"
     toolchain=${guide%/*}/toolchain
-    emulator=$(command -v qemu-x86_64) || die "this machine, $machine, needs the command qemu-x86_64 on the PATH"
+    command -v qemu-x86_64 >/dev/null 2>&1 || install qemu-user
+    emulator=$(command -v qemu-x86_64) ||
+        die "there is no qemu-x86_64 for this machine, $machine, and Debian's package qemu-user could not be installed"
     for word in $(env | sed -n 's/^\(QEMU_[A-Za-z0-9_]*\)=.*/\1/p'); do unset "$word"; done
 }
