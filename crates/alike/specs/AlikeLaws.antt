@@ -17,7 +17,7 @@ use Rattle.chain.specs.View.{zero_transaction, no_transaction, same_struct}
 use Rattle.chain.specs.ViewLaws.{no_transaction_zero, same_struct_refl, same_struct_eq}
 use Rattle.pool.specs.declared.Held.{Held}
 use Rattle.pool.specs.declared.Payment.{Payment}
-use Rattle.flat.specs.declared.Made.{Made}
+use Rattle.flat.specs.Flat.{Made}
 use Rattle.flat.specs.Flat.{zero_entry, made_of, block_of}
 use Rattle.wallet.specs.declared.Wallet.{Wallet}
 use Rattle.alike.specs.Alike.{alike, alike_entry, alike_held, alike_payment, no_entry, no_entries, no_payments}
@@ -128,15 +128,15 @@ alike_refl w =
 
 -- arrays of their lengths that hold nothing are those of the empty list
 
-pub no_entries_none : (m : Made) → length m.entries ≡ most_references → T (no_entries m) → m ≡ made_of []
+pub no_entries_none : (m : Made) → length m.items ≡ most_references → T (no_entries m) → m ≡ made_of []
 no_entries_none m n t =
-    let empty = all no_entry m.entries in
-    let entries : m.entries ≡ replicate most_references zero_entry =
-    subst (λ (k : ℕ). m.entries ≡ replicate k zero_entry) n
-    (all_one no_entry zero_entry (λ (e : Entry). alike_entry_eq e zero_entry) m.entries (and_left empty (eqb m.count 0) t))
+    let empty = all no_entry m.items in
+    let entries : m.items ≡ replicate most_references zero_entry =
+    subst (λ (k : ℕ). m.items ≡ replicate k zero_entry) n
+    (all_one no_entry zero_entry (λ (e : Entry). alike_entry_eq e zero_entry) m.items (and_left empty (eqb m.count 0) t))
     in
     let count = eqb→eq m.count 0 (and_right empty (eqb m.count 0) t) in
-    λ i. record { entries = entries i; count = count i }
+    λ i. record { items = entries i; count = count i }
 
 pub no_payments_none : (b : Block) → length b.transactions ≡ most_transactions → T (no_payments b) → b ≡ block_of []
 no_payments_none b n t =

@@ -142,7 +142,7 @@ fn zero_transactions(transactions: [Transaction; MOST_TRANSACTIONS]) -> bool
 pub fn no_entries(list: Made) -> bool
     ensures { result ≡ no_entries list }
 {
-    let entries = list.entries;
+    let entries = list.items;
     let empty = zero_entries(entries);
     let none = list.count == 0;
     empty & none

@@ -9,9 +9,9 @@ use Rattle.rules.specs.declared.Entry.{Entry}
 use Rattle.rules.specs.Sizes.{most_references}
 use Rattle.rules.specs.Chain.{same_entry, same_value}
 use Rattle.pool.specs.declared.Held.{Held}
-use Rattle.flat.specs.declared.Refs.{Refs}
-use Rattle.flat.specs.declared.Made.{Made}
-use Rattle.flat.specs.declared.Places.{Places}
+use Rattle.flat.specs.Flat.{Refs}
+use Rattle.flat.specs.Flat.{Made}
+use Rattle.flat.specs.Flat.{Places}
 use Rattle.flat.specs.Flat.{refs_of, places_of, refs_in, made_in, seek}
 use Rattle.flat.specs.SeekLaws.{seek_most}
 use Rattle.flat.specs.Told.{refs_back, count_of, place_of}
@@ -74,8 +74,8 @@ agrees_at o entries used place n d here size p q u =
 pub output_place :
     (m : Made) (held : List Reference) (a b : Refs) (places : Places) (i : ℕ) (d : Entry) →
     a ≡ refs_of (map (λ e. e.reference) (made_in m)) → b ≡ refs_of held → places ≡ places_of (map (λ x. seek x (refs_in b)) (refs_in a)) →
-    length m.entries ≡ most_references → i < min m.count most_references →
-    get_or places.at i 0 ≡ seek (get_or m.entries i d).reference held
+    length m.items ≡ most_references → i < min m.count most_references →
+    get_or places.items i 0 ≡ seek (get_or m.items i d).reference held
 output_place m held a b places i d ea eb ep size h =
-    place_of (λ (e : Entry). e.reference) m.entries m.count a ea d b places held (ap refs_in eb ∙ refs_back held) ep i
-    (omega (arith, count_of (λ (e : Entry). e.reference) m.entries m.count a ea))
+    place_of (λ (e : Entry). e.reference) m.items m.count a ea d b places held (ap refs_in eb ∙ refs_back held) ep i
+    (omega (arith, count_of (λ (e : Entry). e.reference) m.items m.count a ea))

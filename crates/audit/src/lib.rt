@@ -6,6 +6,7 @@ ghost use Rattle.audit.specs.Audit.{agrees_first, entries_part, held_test, payme
 ghost use Rattle.flat.specs.Flat.{made_in};
 ghost use Rattle.pool.specs.Good.{before_held, before_payment, good, no_held, no_payment};
 ghost use Rattle.pool.specs.Marks.{apart_marks};
+ghost use Rattle.pool.specs.View.{entries_of};
 ghost use Rattle.rules.specs.Sizes.{most_own, most_payments, most_references, most_states};
 ghost use Rattle.rules.specs.Chain.{same_value};
 ghost use Rattle.sets.specs.Sets.{all, ascending};
@@ -207,13 +208,14 @@ fn same_value(a: Entry, b: Entry) -> bool
 }
 
 // Whether each output agrees with the first entry of its reference, where the pool has one.
-pub fn outputs_agree(made: Made, entries: [Held; MOST_REFERENCES], used: usize) -> bool
-    ensures { result ≡ all (λ o. agrees_first o (take used entries)) (made_in made) }
+pub fn outputs_agree(made: Made, w: &Pool) -> bool
+    ensures { result ≡ all (λ o. agrees_first o (entries_of w.now)) (made_in made) }
 {
-    let refs = flat::held_refs(entries, used);
-    let at = flat::sought(flat::made_refs(made), refs).at;
-    let outputs = made.entries;
-    let end = flat::capped(made.count, MOST_REFERENCES);
+    let refs = flat::held_refs(w);
+    let entries = w.entries;
+    let at = flat::sought(flat::made_refs(made), refs).items;
+    let outputs = made.items;
+    let end = made.count.min(MOST_REFERENCES);
     let stop = refs.count;
     let mut ok = true;
     let mut i = 0;
@@ -301,9 +303,7 @@ pub fn good_pool(w: Pool) -> bool
     if !payments_ok {
         return false;
     }
-    let entries = w.entries;
-    let payments = w.payments;
-    let block = flat::payments_block(payments, w.paying);
+    let block = flat::payments_block(&w);
     let made = flat::made_of(block);
-    outputs_agree(made, entries, w.used)
+    outputs_agree(made, &w)
 }

@@ -24,9 +24,9 @@ use Rattle.pool.specs.Book.{zero_held}
 use Rattle.pool.specs.View.{entries_of, payments_of, pending_at, view}
 use Rattle.pool.specs.RefusalLaws.{is_available, stands_available, available_places}
 use Rattle.pool.specs.BalanceLaws.{is_change}
-use Rattle.flat.specs.declared.Made.{Made}
-use Rattle.flat.specs.declared.Refs.{Refs}
-use Rattle.flat.specs.declared.Places.{Places}
+use Rattle.flat.specs.Flat.{Made}
+use Rattle.flat.specs.Flat.{Refs}
+use Rattle.flat.specs.Flat.{Places}
 use Rattle.flat.specs.Flat.{zero_entry, refs_of, made_of, places_of, block_of, refs_in, made_in, seek}
 use Rattle.flat.specs.Told.{refs_back, made_back, block_back, tells}
 
@@ -43,7 +43,7 @@ pub found_of :
     {A : Type 0} (f : A → Reference) (l : List A) (k : ℕ) (these : Refs) → these ≡ refs_of (map f (take k l)) →
     (d : A) (b : List Reference) (those : Refs) (places : Places) (j : ℕ) →
     those ≡ refs_of b → places ≡ places_of (map (λ x. seek x (refs_in those)) (refs_in these)) → j < these.count →
-    ltb (get_or places.at j 0) those.count ≡ has same_reference (f (get_or l j d)) b
+    ltb (get_or places.items j 0) those.count ≡ has same_reference (f (get_or l j d)) b
 found_of f l k these e d b those places j laid g h =
     tells f l k these e d those places b those.count (ap refs_in laid ∙ refs_back b) g (ap (λ (q : Refs). q.count) laid) j h
 

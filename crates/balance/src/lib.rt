@@ -20,7 +20,7 @@ pub fn utxo_of(w: Pool) -> Made
     ensures { result ≡ made_of (utxo_at 0 (entries_of w)) }
 {
     let entries = w.entries;
-    let end = flat::capped(w.used, MOST_REFERENCES);
+    let end = w.used.min(MOST_REFERENCES);
     let mut kept = [flat::zero_entry(); MOST_REFERENCES];
     let mut count: usize = 0;
     let mut i = 0;
@@ -28,12 +28,12 @@ pub fn utxo_of(w: Pool) -> Made
         let held = entries[i];
         let entry = held.entry;
         let live = held.utxo % 2 == 1;
-        kept[count] = flat::entry_if(live, entry);
+        kept[count] = if live { entry } else { flat::zero_entry() };
         count += live as usize;
         i += 1;
     }
     Made {
-        entries: kept,
+        items: kept,
         count,
     }
 }
@@ -43,7 +43,7 @@ pub fn expected_of(w: Pool) -> Made
     ensures { result ≡ made_of (expected_at 0 (entries_of w)) }
 {
     let entries = w.entries;
-    let end = flat::capped(w.used, MOST_REFERENCES);
+    let end = w.used.min(MOST_REFERENCES);
     let mut kept = [flat::zero_entry(); MOST_REFERENCES];
     let mut count: usize = 0;
     let mut i = 0;
@@ -51,12 +51,12 @@ pub fn expected_of(w: Pool) -> Made
         let held = entries[i];
         let entry = held.entry;
         let live = held.expected % 2 == 1;
-        kept[count] = flat::entry_if(live, entry);
+        kept[count] = if live { entry } else { flat::zero_entry() };
         count += live as usize;
         i += 1;
     }
     Made {
-        entries: kept,
+        items: kept,
         count,
     }
 }
@@ -66,11 +66,10 @@ pub fn available_of(w: Pool) -> Made
     ensures { result ≡ made_of (available (view w).present) }
 {
     let entries = w.entries;
-    let payments = w.payments;
-    let pending = flat::pending_block(payments, w.paying);
+    let pending = flat::pending_block(&w);
     let taken = flat::spent_of(pending);
-    let refs = flat::held_refs(entries, w.used);
-    let at = flat::sought(refs, taken).at;
+    let refs = flat::held_refs(&w);
+    let at = flat::sought(refs, taken).items;
     let stop = taken.count;
     let end = refs.count;
     let mut kept = [flat::zero_entry(); MOST_REFERENCES];
@@ -82,12 +81,12 @@ pub fn available_of(w: Pool) -> Made
         let unspent = held.utxo % 2 == 1;
         let is_taken = at[i] < stop;
         let live = unspent & !is_taken;
-        kept[count] = flat::entry_if(live, entry);
+        kept[count] = if live { entry } else { flat::zero_entry() };
         count += live as usize;
         i += 1;
     }
     Made {
-        entries: kept,
+        items: kept,
         count,
     }
 }
@@ -96,20 +95,19 @@ pub fn available_of(w: Pool) -> Made
 pub fn change_of(w: Pool) -> Made
     ensures { result ≡ made_of (keep (is_change (take w.owns w.own) (entries_of w) (payments_of w)) (made (pending_at 0 (payments_of w)))) }
 {
-    let payments = w.payments;
-    let pending = flat::pending_block(payments, w.paying);
+    let pending = flat::pending_block(&w);
     let taken = flat::spent_of(pending);
     let outputs = flat::made_of(pending);
     let refs = flat::made_refs(outputs);
     let free = flat::made_refs(available_of(w));
-    let taken_at = flat::sought(refs, taken).at;
-    let free_at = flat::sought(refs, free).at;
+    let taken_at = flat::sought(refs, taken).items;
+    let free_at = flat::sought(refs, free).items;
     let taken_stop = taken.count;
     let free_stop = free.count;
     let own = w.own;
-    let owns = flat::capped(w.owns, MOST_OWN);
+    let owns = w.owns.min(MOST_OWN);
     let list = &own[..owns];
-    let entries = outputs.entries;
+    let entries = outputs.items;
     let end = outputs.count;
     let mut kept = [flat::zero_entry(); MOST_REFERENCES];
     let mut count: usize = 0;
@@ -120,12 +118,12 @@ pub fn change_of(w: Pool) -> Made
         let is_taken = taken_at[i] < taken_stop;
         let is_free = free_at[i] < free_stop;
         let live = is_own & !is_taken & !is_free;
-        kept[count] = flat::entry_if(live, entry);
+        kept[count] = if live { entry } else { flat::zero_entry() };
         count += live as usize;
         i += 1;
     }
     Made {
-        entries: kept,
+        items: kept,
         count,
     }
 }
@@ -141,8 +139,8 @@ fn amount_within(amount: u64) -> u64
 pub fn worth_of(list: Made) -> u64
     ensures { result ≡ worth_within (made_in list) }
 {
-    let entries = list.entries;
-    let end = flat::capped(list.count, MOST_REFERENCES);
+    let entries = list.items;
+    let end = list.count.min(MOST_REFERENCES);
     let mut sum: u64 = 0;
     let mut ok = true;
     let mut i = 0;

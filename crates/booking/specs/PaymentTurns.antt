@@ -17,8 +17,8 @@ use Rattle.chain.specs.View.{view_transaction}
 use Rattle.pool.specs.declared.Payment.{Payment}
 use Rattle.pool.specs.Marks.{marked, raised}
 use Rattle.pool.specs.Book.{payment_after_block, payment_marked, zero_payment}
-use Rattle.flat.specs.declared.Refs.{Refs}
-use Rattle.flat.specs.declared.Places.{Places}
+use Rattle.flat.specs.Flat.{Refs}
+use Rattle.flat.specs.Flat.{Places}
 use Rattle.flat.specs.Flat.{refs_of, refs_in, places_of, seek}
 use Rattle.flat.specs.Slots.{past_end}
 use Rattle.flat.specs.SeekLaws.{seek_found}
@@ -42,7 +42,7 @@ pub payments_tell :
     (payments : List Payment) (n end stop : ℕ) (a b : Refs) (p : Places) (gone : List Reference) →
     ((j : ℕ) → j < length payments → length (input_places (get_or payments j past_payment)) ≡ 8) →
     end ≡ min n (length payments) → a ≡ refs_of (gather input_places (take n payments)) → refs_in b ≡ gone →
-    p ≡ places_of (map (λ x. seek x (refs_in b)) (refs_in a)) → stop ≡ length gone → PaymentsTell payments p.at stop end gone
+    p ≡ places_of (map (λ x. seek x (refs_in b)) (refs_in a)) → stop ≡ length gone → PaymentsTell payments p.items stop end gone
 payments_tell payments n end stop a b p gone wide ends e f g k i h =
     ap (any (λ m. ltb m stop)) part
     ∙ any-map (λ m. ltb m stop) place (take here.transaction.takes row)
@@ -96,11 +96,11 @@ payments_tell payments n end stop a b p gone wide ends e f g k i h =
     fits : i * 8 ≤ length (map place all)
     fits = omega (arith, length-map all place, length-drop (i * 8) all, ap length from, length-append row rest, row_long)
 
-    array : p.at ≡ (places_of (map place all)).at
+    array : p.items ≡ (places_of (map place all)).items
     array =
-        ap (λ (q : Places). q.at) g
-        ∙ ap (λ (l : List Reference). (places_of (map (λ x. seek x (refs_in b)) l)).at) (ap refs_in e ∙ refs_back all)
-        ∙ ap (λ (m : List Reference). (places_of (map (λ x. seek x m) all)).at) f
+        ap (λ (q : Places). q.items) g
+        ∙ ap (λ (l : List Reference). (places_of (map (λ x. seek x (refs_in b)) l)).items) (ap refs_in e ∙ refs_back all)
+        ∙ ap (λ (m : List Reference). (places_of (map (λ x. seek x m) all)).items) f
 
     zeros : List ℕ
     zeros = replicate (most_references - length (map place all)) 0
@@ -108,7 +108,7 @@ payments_tell payments n end stop a b p gone wide ends e f g k i h =
     short : takes ≤ length (map place (row ++ rest))
     short = omega (arith, length-map (row ++ rest) place, length-append row rest, row_long)
 
-    part : take takes (drop (i * 8) p.at) ≡ map place (take here.transaction.takes row)
+    part : take takes (drop (i * 8) p.items) ≡ map place (take here.transaction.takes row)
     part =
         ap (λ (l : List ℕ). take takes (drop (i * 8) l)) array
         ∙ ap (take takes) (drop-append-le (i * 8) (map place all) zeros fits)

@@ -13,7 +13,7 @@ use rules::{
 };
 
 // A transaction takes the first `takes` inputs and makes the first `makes` outputs; the other places are zero.
-#[derive(Clone, Copy)]
+#[derive(Clone, Copy, Debug, Default, PartialEq, Eq)]
 pub struct Transaction {
     pub number: Number,
     pub inputs: [Reference; MOST_INPUTS],
@@ -22,11 +22,34 @@ pub struct Transaction {
     pub makes: usize,
 }
 
+// A count past the last place reads as all places.
+impl Transaction {
+    pub fn inputs(&self) -> &[Reference]
+        ensures { result.now ≡ take self.now.takes self.now.inputs }
+    {
+        &self.inputs[..self.takes.min(MOST_INPUTS)]
+    }
+
+    pub fn outputs(&self) -> &[Output]
+        ensures { result.now ≡ take self.now.makes self.now.outputs }
+    {
+        &self.outputs[..self.makes.min(MOST_OUTPUTS)]
+    }
+}
+
 // A block has the first `count` transactions; the other places are zero.
-#[derive(Clone, Copy)]
+#[derive(Clone, Copy, Debug, Default, PartialEq, Eq)]
 pub struct Block {
     pub transactions: [Transaction; MOST_TRANSACTIONS],
     pub count: usize,
+}
+
+impl Block {
+    pub fn transactions(&self) -> &[Transaction]
+        ensures { result.now ≡ take self.now.count self.now.transactions }
+    {
+        &self.transactions[..self.count.min(MOST_TRANSACTIONS)]
+    }
 }
 
 // The two tests of a transaction number, and the number that an unused place holds: all that looks inside one.

@@ -13,7 +13,7 @@ use Rattle.sets.specs.Fill.{map_turn, map_behind, take_capped}
 use Rattle.rules.specs.declared.Reference.{Reference}
 use Rattle.rules.specs.Chain.{same_reference, before_reference}
 use Rattle.rules.specs.ChainLaws.{same_reference_eq, before_reference_trans, before_reference_irrefl, before_reference_one}
-use Rattle.flat.specs.declared.Refs.{Refs}
+use Rattle.flat.specs.Flat.{Refs}
 use Rattle.flat.specs.Flat.{places_of, refs_in, seek}
 use Rattle.flat.specs.SeekLaws.{seek_found, seek_at, seek_none, seek_one}
 use Rattle.flat.specs.Sought.{placed, all_placed}
@@ -231,11 +231,11 @@ module _ (these those : List Reference) (ends stops : ℕ) (at : List ℕ) (i lo
 
 -- before the first turn nothing is placed
 pub halving_start :
-    (a b : Refs) (ends stops : ℕ) → ends ≤ 128 → stops ≡ min b.count 128 → 0 < stops → length a.refs ≡ 128 → length b.refs ≡ 128 →
-    T (ascending before_reference (refs_in b)) → Halving a.refs b.refs ends stops (replicate 128 0) 0 0 stops
+    (a b : Refs) (ends stops : ℕ) → ends ≤ 128 → stops ≡ min b.count 128 → 0 < stops → length a.items ≡ 128 → length b.items ≡ 128 →
+    T (ascending before_reference (refs_in b)) → Halving a.items b.items ends stops (replicate 128 0) 0 0 stops
 halving_start a b ends stops e f g h k t =
-    let size : length (take stops b.refs) ≡ stops = length-take-le stops b.refs (omega (arith, f, k)) in
-    let those : take stops b.refs ≡ refs_in b = ap (λ (n : ℕ). take n b.refs) f ∙ take_capped b.refs b.count 128 (omega (arith, k)) in (
+    let size : length (take stops b.items) ≡ stops = length-take-le stops b.items (omega (arith, f, k)) in
+    let those : take stops b.items ≡ refs_in b = ap (λ (n : ℕ). take n b.items) f ∙ take_capped b.items b.count 128 (omega (arith, k)) in (
       omega arith,
       e,
       omega (arith, f),
@@ -252,5 +252,5 @@ halving_start a b ends stops e f g h k t =
 -- after the last turn all are placed
 pub halving_end :
     (a b : Refs) (ends stops : ℕ) (at : List ℕ) (i low high : ℕ) → ends ≡ min a.count 128 → stops ≡ min b.count 128 → ends ≤ i →
-    Halving a.refs b.refs ends stops at i low high → record { at = at; count = ends } ≡ places_of (map (λ x. seek x (refs_in b)) (refs_in a))
+    Halving a.items b.items ends stops at i low high → record { items = at; count = ends } ≡ places_of (map (λ x. seek x (refs_in b)) (refs_in a))
 halving_end a b ends stops at i low high e f h s = all_placed a b ends stops at i e f s.0 h s.5 s.6 (s.10 h)

@@ -9,7 +9,7 @@ use Rattle.sets.specs.Walks.{any_more}
 use Rattle.sets.specs.Fill.{filled, filled_blank, map_turn, map_behind, map_count, take_done, take_capped}
 use Rattle.rules.specs.declared.Reference.{Reference}
 use Rattle.rules.specs.Chain.{same_reference}
-use Rattle.flat.specs.declared.Refs.{Refs}
+use Rattle.flat.specs.Flat.{Refs}
 use Rattle.flat.specs.Flat.{places_of, refs_in, seek}
 use Rattle.flat.specs.SeekLaws.{seek_first, seek_none}
 
@@ -20,16 +20,16 @@ placed these those n i = filled 128 0 (map (λ x. seek x (take n those)) (take i
 -- after the last turn all are
 pub all_placed :
     (a b : Refs) (ends stops : ℕ) (at : List ℕ) (i : ℕ) → ends ≡ min a.count 128 → stops ≡ min b.count 128 → i ≤ ends → ends ≤ i →
-    length a.refs ≡ 128 → length b.refs ≡ 128 → at ≡ placed a.refs b.refs stops i →
-    record { at = at; count = ends } ≡ places_of (map (λ x. seek x (refs_in b)) (refs_in a))
+    length a.items ≡ 128 → length b.items ≡ 128 → at ≡ placed a.items b.items stops i →
+    record { items = at; count = ends } ≡ places_of (map (λ x. seek x (refs_in b)) (refs_in a))
 all_placed a b ends stops at i e f g h long wide s =
-    let those : take stops b.refs ≡ refs_in b = ap (λ (n : ℕ). take n b.refs) f ∙ take_capped b.refs b.count 128 (omega arith) in
-    let done : take i a.refs ≡ refs_in a = take_done a.refs a.count 128 ends i long e g h in
+    let those : take stops b.items ≡ refs_in b = ap (λ (n : ℕ). take n b.items) f ∙ take_capped b.items b.count 128 (omega arith) in
+    let done : take i a.items ≡ refs_in a = take_done a.items a.count 128 ends i long e g h in
     let here : at ≡ filled 128 0 (map (λ x. seek x (refs_in b)) (refs_in a)) =
     s ∙ (λ k. filled 128 0 (map (λ x. seek x (those k)) (done k)))
     in
-    let count : ends ≡ length (map (λ x. seek x (refs_in b)) (refs_in a)) = map_count (λ x. seek x (refs_in b)) a.refs a.count 128 ends long e in
-    λ k. record { at = here k; count = count k }
+    let count : ends ≡ length (map (λ x. seek x (refs_in b)) (refs_in a)) = map_count (λ x. seek x (refs_in b)) a.items a.count 128 ends long e in
+    λ k. record { items = here k; count = count k }
 
 -- Before a turn: the first i of these are placed, the next one is none of the first j of those, and j stands in its place.
 abbrev pub Seeking : List Reference → List Reference → ℕ → ℕ → List ℕ → ℕ → ℕ → Type 0
@@ -140,23 +140,23 @@ seeking_start these those ends stops e f g h k = (omega arith, e, f, g, h, k, tt
 -- after the last turn all are placed
 pub seeking_end :
     (a b : Refs) (ends stops : ℕ) (at : List ℕ) (i j : ℕ) → ends ≡ min a.count 128 → stops ≡ min b.count 128 → ends ≤ i →
-    Seeking a.refs b.refs ends stops at i j → record { at = at; count = ends } ≡ places_of (map (λ x. seek x (refs_in b)) (refs_in a))
+    Seeking a.items b.items ends stops at i j → record { items = at; count = ends } ≡ places_of (map (λ x. seek x (refs_in b)) (refs_in a))
 seeking_end a b ends stops at i j e f h s =
     all_placed a b ends stops at i e f s.0 h s.4 s.5
     (s.7
-    ∙ ap (set (placed a.refs b.refs stops i) i) (s.8 h)
-    ∙ map_behind 128 0 (λ x. seek x (take stops b.refs)) a.refs i (omega (arith, s.0, s.1, s.4)))
+    ∙ ap (set (placed a.items b.items stops i) i) (s.8 h)
+    ∙ map_behind 128 0 (λ x. seek x (take stops b.items)) a.items i (omega (arith, s.0, s.1, s.4)))
 
 -- where nothing is there to be sought in, every place is 0
 pub nothing_there :
-    (a b : Refs) (ends stops : ℕ) → length a.refs ≡ 128 → ends ≡ min a.count 128 → stops ≡ min b.count 128 → stops ≡ 0 →
-    record { at = replicate 128 0; count = ends } ≡ places_of (map (λ x. seek x (refs_in b)) (refs_in a))
+    (a b : Refs) (ends stops : ℕ) → length a.items ≡ 128 → ends ≡ min a.count 128 → stops ≡ min b.count 128 → stops ≡ 0 →
+    record { items = replicate 128 0; count = ends } ≡ places_of (map (λ x. seek x (refs_in b)) (refs_in a))
 nothing_there a b ends stops g e f n =
     let none : b.count ≡ 0 = omega arith in
-    let there : refs_in b ≡ [] = ap (λ (k : ℕ). take k b.refs) none in
+    let there : refs_in b ≡ [] = ap (λ (k : ℕ). take k b.items) none in
     let zeros : replicate 128 0 ≡ filled 128 0 (map (λ x. seek x (refs_in b)) (refs_in a)) =
     sym (ap (λ (l : List Reference). filled 128 0 (map (λ x. seek x l) (refs_in a))) there
-    ∙ filled_blank 128 0 (refs_in a) (omega (arith, length-take a.count a.refs)))
+    ∙ filled_blank 128 0 (refs_in a) (omega (arith, length-take a.count a.items)))
     in
-    let count : ends ≡ length (map (λ x. seek x (refs_in b)) (refs_in a)) = map_count (λ x. seek x (refs_in b)) a.refs a.count 128 ends g e in
-    λ k. record { at = zeros k; count = count k }
+    let count : ends ≡ length (map (λ x. seek x (refs_in b)) (refs_in a)) = map_count (λ x. seek x (refs_in b)) a.items a.count 128 ends g e in
+    λ k. record { items = zeros k; count = count k }

@@ -42,7 +42,7 @@ fn marks_of(number: Number, taking: Taking) -> Marks
     ensures { result ≡ record { hard = takes_hard number taking; soft = takes_soft number taking } }
 {
     let inputs = taking.inputs;
-    let end = flat::capped(taking.count, MOST_INPUTS);
+    let end = taking.count.min(MOST_INPUTS);
     let mut hard = false;
     let mut soft = false;
     let mut i = 0;
@@ -72,7 +72,7 @@ fn makes_own(own: &[u32], reference: Reference, t: Transaction) -> bool
 {
     let same = chain::same_number(reference.number, t.number);
     let outputs = t.outputs;
-    let makes = flat::capped(t.makes, MOST_OUTPUTS);
+    let makes = t.makes.min(MOST_OUTPUTS);
     let end = reach(same, makes);
     let mut found = false;
     let mut i = 0;
@@ -146,7 +146,7 @@ pub(crate) fn brings_of(
     requires taken_value { taken ≡ takings_of own.now (state_of utxo expected pending) }
     ensures { result ≡ filled most_references no_bring (map (bring_of own.now (state_of utxo expected pending)) (made_in expected)) }
 {
-    let entries = expected.entries;
+    let entries = expected.items;
     let transactions = pending.transactions;
     let end = expected.count;
     let count = pending.count;

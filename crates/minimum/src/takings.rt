@@ -68,10 +68,10 @@ pub(crate) fn standing_of(refs: Refs, made: Made) -> Standing
     ensures { result ≡ standing_of (refs_in refs) (made_in made) }
 {
     let those = flat::made_refs(made);
-    let at = flat::sought(refs, those).at;
+    let at = flat::sought(refs, those).items;
     let stops = those.count;
-    let entries = made.entries;
-    let end = flat::capped(refs.count, MOST_REFERENCES);
+    let entries = made.items;
+    let end = refs.count.min(MOST_REFERENCES);
     let mut here = [false; MOST_REFERENCES];
     let mut amounts = [0u64; MOST_REFERENCES];
     let mut i = 0;

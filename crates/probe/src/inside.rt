@@ -72,7 +72,7 @@ fn put_entries(
 
 // A set's name and its entries, on a line.
 fn put_set(t: &mut Text, at: usize, name: &[u8], list: Made) -> Result<usize> {
-    let entries = list.entries;
+    let entries = list.items;
     let named = put_all(t, at, name)?;
     let listed = put_entries(t, named, entries, list.count)?;
     put(t, listed, b'\n')

@@ -81,7 +81,7 @@ fn like(to: Stdout, w: Wallet, there: Wallet) -> Result<bool> {
 }
 
 fn first_of(list: Made) -> rules::Reference {
-    let entries = list.entries;
+    let entries = list.items;
     let first = entries[0];
     first.reference
 }

@@ -51,7 +51,7 @@ fn named_in(text: &[u8], at: usize) -> usize
     ensures { result ≤ 33 }
 {
     let line = seen(text, at, 0);
-    flat::capped(line.seen, MOST_NAMED)
+    line.seen.min(MOST_NAMED)
 }
 
 // The own addresses that a line names, and zeros behind them.

@@ -19,9 +19,9 @@ use Rattle.pool.specs.declared.Pool.{Pool}
 use Rattle.pool.specs.View.{entries_of, utxo_at, view}
 use Rattle.pool.specs.Good.{good}
 use Rattle.pool.specs.LayoutLaws.{good_layout}
-use Rattle.flat.specs.declared.Refs.{Refs}
-use Rattle.flat.specs.declared.Made.{Made}
-use Rattle.flat.specs.declared.Places.{Places}
+use Rattle.flat.specs.Flat.{Refs}
+use Rattle.flat.specs.Flat.{Made}
+use Rattle.flat.specs.Flat.{Places}
 use Rattle.flat.specs.Flat.{zero_entry, refs_of, made_of, places_of, block_of, refs_in, made_in, seek}
 use Rattle.flat.specs.SeekLaws.{seek_found}
 use Rattle.flat.specs.Told.{refs_back, made_back, count_of, tells}

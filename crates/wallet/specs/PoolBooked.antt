@@ -19,13 +19,13 @@ use Rattle.pool.specs.Good.{no_held, good}
 use Rattle.pool.specs.LayoutLaws.{no_held_lem, good_layout, entries_counted}
 use Rattle.pool.specs.Book.{zero_held, entries_after_block, entries_after_rollback, payments_after_block, payments_after_payment, payments_after_rollback, book_block, book_payment, book_rollback}
 use Rattle.pool.specs.BlockEntries.{entries_booked, payments_booked}
-use Rattle.flat.specs.declared.Refs.{Refs}
-use Rattle.flat.specs.declared.Made.{Made}
+use Rattle.flat.specs.Flat.{Refs}
+use Rattle.flat.specs.Flat.{Made}
 use Rattle.flat.specs.Flat.{refs_of, made_of, refs_in, made_in}
 use Rattle.flat.specs.Told.{refs_back, made_back}
-use Rattle.booking.specs.declared.Kept.{Kept}
-use Rattle.booking.specs.declared.Merged.{Merged}
-use Rattle.booking.specs.declared.Paying.{Paying}
+use Rattle.booking.specs.Lists.{Kept}
+use Rattle.booking.specs.Lists.{Merged}
+use Rattle.booking.specs.Lists.{Paying}
 use Rattle.booking.specs.Lists.{kept_of, merged_of, paying_of, merged_in}
 use Rattle.wallet.specs.declared.bookings.Next.{Next}
 

@@ -8,7 +8,7 @@ use Rattle.pool.specs.declared.Pool.{Pool}
 use Rattle.pool.specs.View.{view}
 use Rattle.pool.specs.Good.{good}
 use Rattle.pool.specs.LayoutLaws.{good_view}
-use Rattle.flat.specs.declared.Made.{Made}
+use Rattle.flat.specs.Flat.{Made}
 use Rattle.flat.specs.Flat.{made_of, made_in}
 use Rattle.balance.specs.Worth.{worth_within}
 use Rattle.balance.specs.WorthLaws.{worth_flat, worth_most, change_of, available_worth, total_worth}

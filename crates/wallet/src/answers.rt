@@ -59,7 +59,6 @@ pub(crate) fn block_answer(w: Pool, b: Block) -> u32
     if !good {
         return 1;
     }
-    let entries = w.entries;
     let payments = w.payments;
     let made = flat::made_of(b);
     let unspent = balance::utxo_of(w);
@@ -68,7 +67,7 @@ pub(crate) fn block_answer(w: Pool, b: Block) -> u32
     if already {
         return 5;
     }
-    let outputs_agree = audit::outputs_agree(made, entries, w.used);
+    let outputs_agree = audit::outputs_agree(made, &w);
     let payments_agree = transactions_agree(b, payments, w.paying);
     if !outputs_agree | !payments_agree {
         return 6;

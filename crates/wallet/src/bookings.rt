@@ -28,7 +28,7 @@ pub(crate) fn nothing() -> Made
     ensures { result ≡ made_of [] }
 {
     Made {
-        entries: [flat::zero_entry(); MOST_REFERENCES],
+        items: [flat::zero_entry(); MOST_REFERENCES],
         count: 0,
     }
 }
@@ -89,12 +89,10 @@ pub(crate) fn after_block(w: Pool, b: Block) -> Next
     ensures { result ≡ cond (leb (length (entries_booked w (view_block b))) most_references) (record { fits = true; pool = book_block w (view_block b) }) (record { fits = false; pool = w }) }
 {
     let own = w.own;
-    let entries = w.entries;
-    let payments = w.payments;
     let owns = w.owns;
     let gone = flat::spent_of(b);
     let made = flat::own_of(flat::made_of(b), &own[..owns]);
-    let merged = booking::entries_after_block(entries, w.used, made, gone);
+    let merged = booking::entries_after_block(&w, made, gone);
     if MOST_REFERENCES < merged.count {
         return Next {
             fits: false,
@@ -102,10 +100,10 @@ pub(crate) fn after_block(w: Pool, b: Block) -> Next
         };
     }
     let kept = booking::cut(merged);
-    let paying = booking::payments_after_block(payments, w.paying, gone);
+    let paying = booking::payments_after_block(&w, gone);
     let below = more_below(w.below);
-    let next_entries = kept.entries;
-    let next_payments = paying.payments;
+    let next_entries = kept.items;
+    let next_payments = paying.items;
     Next {
         fits: true,
         pool: Pool {
@@ -127,9 +125,8 @@ pub(crate) fn after_payment(w: Pool, t: Transaction) -> Pool
 {
     let own = w.own;
     let entries = w.entries;
-    let payments = w.payments;
-    let paying = booking::payments_after_payment(payments, w.paying, t);
-    let next_payments = paying.payments;
+    let paying = booking::payments_after_payment(&w, t);
+    let next_payments = paying.items;
     Pool {
         own,
         owns: w.owns,
@@ -147,12 +144,10 @@ pub(crate) fn after_rollback(w: Pool) -> Pool
     ensures { result ≡ book_rollback w }
 {
     let own = w.own;
-    let entries = w.entries;
-    let payments = w.payments;
-    let kept = booking::entries_after_rollback(entries, w.used);
-    let paying = booking::payments_after_rollback(payments, w.paying);
-    let next_entries = kept.entries;
-    let next_payments = paying.payments;
+    let kept = booking::entries_after_rollback(&w);
+    let paying = booking::payments_after_rollback(&w);
+    let next_entries = kept.items;
+    let next_payments = paying.items;
     let below = w.below - 1;
     Pool {
         own,

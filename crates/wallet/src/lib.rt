@@ -176,7 +176,7 @@ impl Wallet {
     {
         let pool = self.pool;
         let sound = audit::good_pool(pool);
-        let below = flat::capped(pool.below, MOST_STATES);
+        let below = pool.below.min(MOST_STATES);
         let held = below + 1;
         queries::told_amount(sound, held as u64)
     }
@@ -213,9 +213,8 @@ impl Wallet {
         ensures { result ≡ pending_listed self (pending_structs self) }
     {
         let pool = self.pool;
-        let payments = pool.payments;
         let sound = audit::good_pool(pool);
-        let pending = flat::pending_block(payments, pool.paying);
+        let pending = flat::pending_block(&pool);
         queries::told_pending(sound, pending)
     }
 }

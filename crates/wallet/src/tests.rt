@@ -19,7 +19,7 @@ pub(crate) fn payments_have(
 ) -> bool
     ensures { result ≡ any (λ p. same_number number p.transaction.number) (take paying payments) }
 {
-    let end = flat::capped(paying, MOST_PAYMENTS);
+    let end = paying.min(MOST_PAYMENTS);
     let mut found = false;
     let mut i = 0;
     while i < end {
@@ -36,7 +36,7 @@ pub(crate) fn payments_have(
 pub(crate) fn entries_have(entries: [Held; MOST_REFERENCES], used: usize, number: Number) -> bool
     ensures { result ≡ any (λ h. same_number number h.entry.reference.number) (take used entries) }
 {
-    let end = flat::capped(used, MOST_REFERENCES);
+    let end = used.min(MOST_REFERENCES);
     let mut found = false;
     let mut i = 0;
     while i < end {
@@ -64,10 +64,10 @@ pub(crate) fn alone(t: Transaction) -> Block
 
 // Whether every place was found, or any.
 pub(crate) fn all_found(places: Places, stop: usize) -> bool
-    ensures { result ≡ all (λ a. ltb a stop) (take places.count places.at) }
+    ensures { result ≡ all (λ a. ltb a stop) (take places.count places.items) }
 {
-    let at = places.at;
-    let end = flat::capped(places.count, MOST_REFERENCES);
+    let at = places.items;
+    let end = places.count.min(MOST_REFERENCES);
     let mut ok = true;
     let mut i = 0;
     while i < end {
@@ -79,10 +79,10 @@ pub(crate) fn all_found(places: Places, stop: usize) -> bool
 }
 
 pub(crate) fn any_found(places: Places, stop: usize) -> bool
-    ensures { result ≡ any (λ a. ltb a stop) (take places.count places.at) }
+    ensures { result ≡ any (λ a. ltb a stop) (take places.count places.items) }
 {
-    let at = places.at;
-    let end = flat::capped(places.count, MOST_REFERENCES);
+    let at = places.items;
+    let end = places.count.min(MOST_REFERENCES);
     let mut found = false;
     let mut i = 0;
     while i < end {
@@ -97,21 +97,21 @@ pub(crate) fn any_found(places: Places, stop: usize) -> bool
 pub(crate) fn among(list: Made, refs: Refs) -> Made
     ensures { result ≡ made_of (keep (λ e. has same_reference e.reference (refs_in refs)) (made_in list)) }
 {
-    let at = flat::sought(flat::made_refs(list), refs).at;
-    let stop = flat::capped(refs.count, MOST_REFERENCES);
-    let entries = list.entries;
-    let end = flat::capped(list.count, MOST_REFERENCES);
+    let at = flat::sought(flat::made_refs(list), refs).items;
+    let stop = refs.count.min(MOST_REFERENCES);
+    let entries = list.items;
+    let end = list.count.min(MOST_REFERENCES);
     let mut kept = [flat::zero_entry(); MOST_REFERENCES];
     let mut count: usize = 0;
     let mut i = 0;
     while i < end {
         let live = at[i] < stop;
-        kept[count] = flat::entry_if(live, entries[i]);
+        kept[count] = if live { entries[i] } else { flat::zero_entry() };
         count += live as usize;
         i += 1;
     }
     Made {
-        entries: kept,
+        items: kept,
         count,
     }
 }
@@ -167,7 +167,7 @@ pub(crate) fn transactions_agree(
         ok = ok & here;
         let next = j + 1;
         let done = next == paying;
-        j = flat::turn(done, next);
+        j = if done { 0 } else { next };
         i += done as usize;
     }
     ok

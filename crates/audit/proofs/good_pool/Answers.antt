@@ -14,7 +14,7 @@ use Rattle.chain.specs.View.{view_transaction, view_block, zero_transaction}
 use Rattle.pool.specs.declared.Payment.{Payment}
 use Rattle.pool.specs.View.{entries_of, payments_of}
 use Rattle.pool.specs.Good.{good}
-use Rattle.flat.specs.declared.Made.{Made}
+use Rattle.flat.specs.Flat.{Made}
 use Rattle.flat.specs.Flat.{zero_entry, block_of, made_of, made_in}
 use Rattle.audit.specs.Audit.{entries_part, payments_part, agrees_first}
 use Rattle.audit.specs.AuditLaws.{parts_good}

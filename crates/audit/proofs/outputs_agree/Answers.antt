@@ -8,7 +8,7 @@ use Rattle.sets.specs.Fill.{take_done, mapped_length}
 use Rattle.rules.specs.Sizes.{most_references}
 use Rattle.rules.specs.declared.Entry.{Entry}
 use Rattle.pool.specs.declared.Held.{Held}
-use Rattle.flat.specs.declared.Refs.{Refs}
+use Rattle.flat.specs.Flat.{Refs}
 use Rattle.audit.specs.Audit.{agrees_first}
 use Rattle.audit.specs.Agreement.{held_refs, agrees_at, output_place}
 use borrow.Author.Rules.{rules}
@@ -25,7 +25,7 @@ loop-i-preserved c =
       search rules,
       search rules,
       search rules,
-      all_step (λ (o : Entry). agrees_first o (take c.args.used c.args.entries)) c.args.made.entries c.loop-i.i _ _ _
+      all_step (λ (o : Entry). agrees_first o (take c.args.used c.args.entries)) c.args.made.items c.loop-i.i _ _ _
           (search rules) c.loop-i.invariant.5
           (agrees_at _ c.args.entries c.args.used _ _ _ _ (search rules)
           (output_place c.args.made (held_refs (take c.args.used c.args.entries)) _ _ _ c.loop-i.i _
@@ -38,5 +38,5 @@ pub returns : goal.returns
 returns c =
     c.loop-i.invariant.5
     ∙ ap (all (λ (o : Entry). agrees_first o (take c.args.used c.args.entries)))
-    (take_done c.args.made.entries c.args.made.count most_references _ c.loop-i.i
+    (take_done c.args.made.items c.args.made.count most_references _ c.loop-i.i
     (search rules) c.capped-end.ensures (search rules) (search rules))

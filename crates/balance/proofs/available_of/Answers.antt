@@ -23,17 +23,17 @@ loop-i-init c =
     let places : length c.args.w.entries ≡ 128 = search (rules, mapped_length) in (
       places,
       search (rules, mapped_length),
-      gaining_start most_references zero_entry (live c.args.w.entries c.sought.result.at c.spent_of-taken.result.count) (entry_at c.args.w.entries) _ _ (omega (arith, count_of (λ (h : Held). h.entry.reference) c.args.w.entries c.args.w.used _ c.held_refs-refs.ensures)) (ap (replicate 128) c.zero_entry-kept.ensures),
+      gaining_start most_references zero_entry (live c.args.w.entries c.sought.result.items c.spent_of-taken.result.count) (entry_at c.args.w.entries) _ _ (omega (arith, count_of (λ (h : Held). h.entry.reference) c.args.w.entries c.args.w.used _ c.held_refs-refs.ensures)) (ap (replicate 128) c.zero_entry-kept.ensures),
     )
 
 pub overflow_add-count : goal.overflow_add-count
-overflow_add-count c = flag_fits _ (live c.args.w.entries c.sought.result.at c.spent_of-taken.result.count c.loop-i.i) (search rules)
+overflow_add-count c = flag_fits _ (live c.args.w.entries c.sought.result.items c.spent_of-taken.result.count c.loop-i.i) (search rules)
 
 pub loop-i-preserved : goal.loop-i-preserved
 loop-i-preserved c = (
   c.loop-i.invariant.0,
   c.loop-i.invariant.1,
-  gaining_turn most_references zero_entry (live c.args.w.entries c.sought.result.at c.spent_of-taken.result.count) (entry_at c.args.w.entries) _ _ _ c.loop-i.i _ _ (search rules) refl c.entry_if.ensures c.loop-i.invariant.2,
+  gaining_turn most_references zero_entry (live c.args.w.entries c.sought.result.items c.spent_of-taken.result.count) (entry_at c.args.w.entries) _ _ _ c.loop-i.i _ _ (search rules) refl c.entry_if.ensures c.loop-i.invariant.2,
 )
 
 pub returns : goal.returns

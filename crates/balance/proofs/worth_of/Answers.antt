@@ -13,18 +13,18 @@ pub loop-i-init : goal.loop-i-init
 loop-i-init c = (search rules, search rules, search (rules, mapped_length), search rules, refl, refl)
 
 pub overflow_add-sum : goal.overflow_add-sum
-overflow_add-sum c = record { fits = omega (arith, counted_most (get_or c.args.list.entries c.loop-i.i zero_entry), c.amount_within-amount.ensures, c.loop-i.invariant.3) }
+overflow_add-sum c = record { fits = omega (arith, counted_most (get_or c.args.list.items c.loop-i.i zero_entry), c.amount_within-amount.ensures, c.loop-i.invariant.3) }
 
 pub loop-i-preserved : goal.loop-i-preserved
 loop-i-preserved c =
-    summing_turn c.args.list.entries _ _ _ (within (get_or c.args.list.entries c.loop-i.i zero_entry)) c.loop-i.i _ (search rules) c.loop-i.invariant refl c.amount_within-amount.ensures
+    summing_turn c.args.list.items _ _ _ (within (get_or c.args.list.items c.loop-i.i zero_entry)) c.loop-i.i _ (search rules) c.loop-i.invariant refl c.amount_within-amount.ensures
 
 pub returns-then-ok : goal.returns-then-ok
 returns-then-ok c =
     sym (ap (λ (b : Bool). cond b c.loop-i.sum 0) c.if-ok.true)
-    ∙ summing_end c.args.list.entries c.args.list.count _ c.loop-i.sum _ c.loop-i.i c.capped-end.ensures (search rules) c.loop-i.invariant
+    ∙ summing_end c.args.list.items c.args.list.count _ c.loop-i.sum _ c.loop-i.i c.capped-end.ensures (search rules) c.loop-i.invariant
 
 pub returns-else-ok : goal.returns-else-ok
 returns-else-ok c =
     sym (ap (λ (b : Bool). cond b c.loop-i.sum 0) c.if-ok.false)
-    ∙ summing_end c.args.list.entries c.args.list.count _ c.loop-i.sum _ c.loop-i.i c.capped-end.ensures (search rules) c.loop-i.invariant
+    ∙ summing_end c.args.list.items c.args.list.count _ c.loop-i.sum _ c.loop-i.i c.capped-end.ensures (search rules) c.loop-i.invariant

@@ -18,7 +18,7 @@ loop-i-preserved c = (
   search rules,
   search rules,
   search rules,
-  map_turn most_references no_bring (bring_from c.args.own.now c.args.pending.count c.args.pending.transactions c.args.taken) c.args.expected.entries c.loop-i.i zero_entry _ _ (search rules) c.loop-i.invariant.3 c.loop-i.invariant.4 c.bring_from.ensures,
+  map_turn most_references no_bring (bring_from c.args.own.now c.args.pending.count c.args.pending.transactions c.args.taken) c.args.expected.items c.loop-i.i zero_entry _ _ (search rules) c.loop-i.invariant.3 c.loop-i.invariant.4 c.bring_from.ensures,
 )
 
 pub returns : goal.returns

@@ -18,8 +18,8 @@ loop-i-preserved c = (
   search rules,
   search rules,
   search rules,
-  listed_turn most_references false (found_at c.sought.result.at c.made_refs-those.result.count) _ c.loop-i.i _ (search rules) c.loop-i.invariant.4 refl,
-  listed_turn most_references 0 (amount_found c.sought.result.at c.made_refs-those.result.count c.args.made.entries) _ c.loop-i.i _ (search rules) c.loop-i.invariant.5 c.amount_if.ensures,
+  listed_turn most_references false (found_at c.sought.result.items c.made_refs-those.result.count) _ c.loop-i.i _ (search rules) c.loop-i.invariant.4 refl,
+  listed_turn most_references 0 (amount_found c.sought.result.items c.made_refs-those.result.count c.args.made.items) _ c.loop-i.i _ (search rules) c.loop-i.invariant.5 c.amount_if.ensures,
 )
 
 pub returns : goal.returns

@@ -11,8 +11,8 @@ use Rattle.wallet.proofs.Wallet.total.Goals as goal
 
 pub overflow_add-both : goal.overflow_add-both
 overflow_add-both c =
-    let these : length c.available_of.result.entries ≡ most_references = search (rules, mapped_length) in
-    let those : length c.change_of.result.entries ≡ most_references = search (rules, mapped_length) in
+    let these : length c.available_of.result.items ≡ most_references = search (rules, mapped_length) in
+    let those : length c.change_of.result.items ≡ most_references = search (rules, mapped_length) in
     record { fits = sums_small c.available_of.result c.change_of.result these c.worth_of-free.ensures those c.worth_of-change.ensures }
 
 pub returns : goal.returns

@@ -10,7 +10,7 @@ use Rattle.rules.specs.Sizes.{most_references}
 use Rattle.chain.specs.View.{view_block}
 use Rattle.pool.specs.BlockEntries.{entries_booked}
 use Rattle.pool.specs.LayoutLaws.{good_layout}
-use Rattle.booking.specs.declared.Merged.{Merged}
+use Rattle.booking.specs.Lists.{Merged}
 use Rattle.wallet.specs.Flags.{picks_first, picks_second}
 use Rattle.wallet.specs.PoolBooked.{block_merged, merged_cut, block_paying, block_pool}
 use Rattle.wallet.proofs.bookings.after_block.Goals as goal

@@ -16,13 +16,13 @@ loop-i-preserved c = (
   search rules,
   search rules,
   search rules,
-  all_step (λ (a : ℕ). ltb a c.args.stop) c.args.places.at c.loop-i.i _ c.loop-i.ok _
+  all_step (λ (a : ℕ). ltb a c.args.stop) c.args.places.items c.loop-i.i _ c.loop-i.ok _
       (search rules) c.loop-i.invariant.3 refl,
 )
 
 pub returns : goal.returns
 returns c =
-    let places : length c.args.places.at ≡ 128 = search rules in
+    let places : length c.args.places.items ≡ 128 = search rules in
     c.loop-i.invariant.3
     ∙ ap (all (λ (a : ℕ). ltb a c.args.stop))
-    (take_done c.args.places.at c.args.places.count 128 _ c.loop-i.i places c.capped-end.ensures (search rules) (search rules))
+    (take_done c.args.places.items c.args.places.count 128 _ c.loop-i.i places c.capped-end.ensures (search rules) (search rules))

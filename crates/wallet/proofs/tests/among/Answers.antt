@@ -18,19 +18,19 @@ use Rattle.wallet.proofs.tests.among.Goals as goal
 
 pub loop-i-init : goal.loop-i-init
 loop-i-init c =
-    let places : length c.sought.result.at ≡ 128 = search rules in
-    let entries : length c.args.list.entries ≡ 128 = search (rules, mapped_length) in
-    (places, entries, gaining_start 128 zero_entry (live c.sought.result.at c.capped-stop.result) (entry_at c.args.list.entries) _ _ (search rules) (ap (replicate 128) c.zero_entry-kept.ensures))
+    let places : length c.sought.result.items ≡ 128 = search rules in
+    let entries : length c.args.list.items ≡ 128 = search (rules, mapped_length) in
+    (places, entries, gaining_start 128 zero_entry (live c.sought.result.items c.capped-stop.result) (entry_at c.args.list.items) _ _ (search rules) (ap (replicate 128) c.zero_entry-kept.ensures))
 
 pub overflow_add-count : goal.overflow_add-count
 overflow_add-count c =
-    flag_fits _ (ltb (get_or c.sought.result.at c.loop-i.i 0) c.capped-stop.result) (search rules)
+    flag_fits _ (ltb (get_or c.sought.result.items c.loop-i.i 0) c.capped-stop.result) (search rules)
 
 pub loop-i-preserved : goal.loop-i-preserved
 loop-i-preserved c = (
   c.loop-i.invariant.0,
   c.loop-i.invariant.1,
-  gaining_turn 128 zero_entry (live c.sought.result.at c.capped-stop.result) (entry_at c.args.list.entries) _ _ _ c.loop-i.i _ _
+  gaining_turn 128 zero_entry (live c.sought.result.items c.capped-stop.result) (entry_at c.args.list.items) _ _ _ c.loop-i.i _ _
       (search rules) refl c.entry_if.ensures c.loop-i.invariant.2,
 )
 
@@ -38,15 +38,15 @@ pub returns : goal.returns
 returns c =
     let p : Entry → Bool = λ e. has same_reference e.reference (refs_in c.args.refs) in
     let those : length c.args.refs.refs ≡ 128 = search (rules, mapped_length) in
-    let places : length c.args.list.entries ≡ 128 = c.loop-i.invariant.1 in
+    let places : length c.args.list.items ≡ 128 = c.loop-i.invariant.1 in
     picked_all _ _ _ _ _ c.loop-i.i (search rules) c.loop-i.invariant.2
     ∙ ap made_of
-    (gained_kept _ (λ (e : Entry). e) p c.args.list.entries zero_entry c.capped-end.result (omega (arith, c.capped-end.ensures))
+    (gained_kept _ (λ (e : Entry). e) p c.args.list.items zero_entry c.capped-end.result (omega (arith, c.capped-end.ensures))
     (λ (k : ℕ) (h : k < c.capped-end.result).
     found_here c.args.list c.args.refs _ _ _ k places those
     c.made_refs.ensures
     c.sought.ensures
     c.capped-stop.ensures
     (omega (arith, c.capped-end.ensures)))
-    ∙ map-id (keep p (take c.capped-end.result c.args.list.entries))
-    ∙ ap (keep p) (take_done c.args.list.entries c.args.list.count 128 _ c.capped-end.result places c.capped-end.ensures (omega arith) (omega arith)))
+    ∙ map-id (keep p (take c.capped-end.result c.args.list.items))
+    ∙ ap (keep p) (take_done c.args.list.items c.args.list.count 128 _ c.capped-end.result places c.capped-end.ensures (omega arith) (omega arith)))
