@@ -1,7 +1,7 @@
 // Transactions and blocks by value, and whether they are shaped as the paper says.
 #![tactic(auto)]
 
-ghost use Rattle.std.specs.Prelude.{◌≡◌, ◌≤◌, leb, take, drop};
+ghost use Rattle.std.specs.Prelude.{◌≡◌, ◌≤◌, leb, length, take, drop};
 ghost use Rattle.chain.specs.View.{before_struct, good_block, good_transaction, no_number, no_output, no_reference, no_transaction, same_struct, zero_number, zero_output, zero_reference, zero_transaction};
 ghost use Rattle.rules.specs.Chain.{before_number, before_output, before_reference, same_number, same_output, same_reference, shaped_own};
 ghost use Rattle.rules.specs.Sizes.{largest_amount, most_inputs, most_outputs, most_transactions};
@@ -25,13 +25,15 @@ pub struct Transaction {
 // A count past the last place reads as all places.
 impl Transaction {
     pub fn inputs(&self) -> &[Reference]
-        ensures { result.now ≡ take self.now.takes self.now.inputs }
+        ensures inputs { result.now ≡ take self.now.takes self.now.inputs }
+        ensures most { length result.now ≤ most_inputs }
     {
         &self.inputs[..self.takes.min(MOST_INPUTS)]
     }
 
     pub fn outputs(&self) -> &[Output]
-        ensures { result.now ≡ take self.now.makes self.now.outputs }
+        ensures outputs { result.now ≡ take self.now.makes self.now.outputs }
+        ensures most { length result.now ≤ most_outputs }
     {
         &self.outputs[..self.makes.min(MOST_OUTPUTS)]
     }
@@ -46,7 +48,8 @@ pub struct Block {
 
 impl Block {
     pub fn transactions(&self) -> &[Transaction]
-        ensures { result.now ≡ take self.now.count self.now.transactions }
+        ensures transactions { result.now ≡ take self.now.count self.now.transactions }
+        ensures most { length result.now ≤ most_transactions }
     {
         &self.transactions[..self.count.min(MOST_TRANSACTIONS)]
     }

@@ -1,5 +1,6 @@
 -- A list in fixed memory: its items in the first places, and behind them what an unused place holds.
 use Rattle.std.specs.Prelude.{ℕ, ◌+◌, cond, List, ltb, length, take, set}
+use Rattle.std.specs.List.{fold}
 use Rattle.sets.specs.Fill.{filled}
 use Rattle.fixed.specs.declared.Filled.{Filled}
 
@@ -14,3 +15,7 @@ items_in f = take f.count f.items
 -- with one item more; as it is where it is full
 abbrev pub with_item : {T : Type 0} {n : ℕ} → Filled T n → T → Filled T n
 with_item {n = n} f x = cond (ltb f.count n) (record { items = set f.items f.count x; count = f.count + 1 }) f
+
+-- with more items, one behind the other
+abbrev pub with_items : {T : Type 0} {n : ℕ} → Filled T n → List T → Filled T n
+with_items f l = fold with_item f l

@@ -40,8 +40,11 @@ places_of l = filled_of most_references 0 l
 abbrev pub found_of : List Bool → Found
 found_of l = filled_of most_references false l
 
+abbrev pub as_block : Filled Transaction most_transactions → Block
+as_block f = record { transactions = f.items; count = f.count }
+
 abbrev pub block_of : List Transaction → Block
-block_of l = record { transactions = filled most_transactions zero_transaction l; count = length l }
+block_of l = as_block (filled_of most_transactions zero_transaction l)
 
 -- and back: the first places, as many as the count says
 abbrev pub refs_in : Refs → List Reference

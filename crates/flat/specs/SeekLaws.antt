@@ -1,6 +1,6 @@
 -- Where a reference stands in a list: the place of the first same one, below the length exactly where there is one, and
 -- the only such place where no two are the same.
-use Rattle.std.specs.Prelude.{ℕ, zero, suc, ◌≤◌, ◌<◌, ◌≡◌, refl, true, false, not, cond, ◌||◌, List, [], ◌∷◌, T, ltb, length, get_or, take}
+use Rattle.std.specs.Prelude.{ℕ, zero, suc, ◌≤◌, ◌<◌, ◌≡◌, refl, true, false, not, cond, ◌||◌, List, map, [], ◌∷◌, T, ltb, length, get_or, take}
 use Rattle.std.proofs.Common.{sym, ap, subst, ◌∙◌, ⊎_elim, not-suc-le-zero, le_of_suc-le-suc, arith, T_not}
 use Rattle.std.proofs.Math.Dec.{not_T, leb-zero, leb-suc-suc}
 use Rattle.sets.specs.Sets.{has, ascending}
@@ -83,3 +83,9 @@ seek_one r (x ∷ l) (suc j) d a h t =
     in
     cond_false (same_reference r x) 0 (suc (seek r l)) other
     ∙ ap suc (seek_one r l j d (ascending_tail before_reference x l a) k t)
+
+-- of each reference, whether its place is inside the list says whether the list has it
+pub found_same :
+    (a b : List Reference) → map (λ p. ltb p (length b)) (map (λ x. seek x b) a) ≡ map (λ x. has same_reference x b) a
+found_same [] b = refl
+found_same (x ∷ a) b = λ i. seek_found x b i ∷ found_same a b i

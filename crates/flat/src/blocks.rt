@@ -1,10 +1,12 @@
 // Blocks and payments laid flat: what they spend and make, and payments as a block.
-ghost use Rattle.std.specs.Prelude.{map, ◌≡◌};
-ghost use Rattle.chain.specs.View.{view_block};
-ghost use Rattle.flat.specs.Flat.{block_of, made_of, refs_of};
+ghost use Rattle.std.specs.Prelude.{map, ◌≡◌, ◌≤◌, length};
+ghost use Rattle.chain.specs.View.{view_block, view_transaction};
+ghost use Rattle.fixed.specs.Filled.{with_items};
+ghost use Rattle.flat.specs.Flat.{as_block, block_of, made_of, refs_of};
 ghost use Rattle.pool.specs.Marks.{marked};
 ghost use Rattle.pool.specs.View.{payments_of};
-ghost use Rattle.rules.specs.Chain.{entry_of, made, spent};
+ghost use Rattle.rules.specs.Chain.{entry_of, made, makes, spent};
+ghost use Rattle.rules.specs.Sizes.{most_inputs, most_outputs};
 ghost use Rattle.sets.specs.Sets.{gather, keep};
 
 use crate::{Made, Refs, zero_entry};
@@ -33,11 +35,19 @@ pub fn spent_of(b: Block) -> Refs
 {
     let mut refs = Refs::none(chain::zero_reference());
     for transaction in b.transactions() {
-        for input in transaction.inputs() {
-            refs.push(*input);
-        }
+        refs.extend(transaction.inputs());
     }
     refs
+}
+
+// A transaction's outputs behind what is there already.
+fn push_made(entries: &mut Made, transaction: &Transaction)
+    ensures entries { entries.new ≡ with_items entries.old (makes (view_transaction transaction.now)) }
+    ensures most { length (makes (view_transaction transaction.now)) ≤ most_outputs }
+{
+    for output in transaction.outputs() {
+        entries.push(entry_of(transaction.number, *output));
+    }
 }
 
 // All that a block makes, own or not, one transaction's outputs after another's.
@@ -46,16 +56,14 @@ pub fn made_of(b: Block) -> Made
 {
     let mut entries = Made::none(zero_entry());
     for transaction in b.transactions() {
-        for output in transaction.outputs() {
-            entries.push(entry_of(transaction.number, *output));
-        }
+        push_made(&mut entries, transaction);
     }
     entries
 }
 
 // Some transactions as a block.
-fn block_of(list: Filled<Transaction, MOST_TRANSACTIONS>) -> Block
-    ensures { (result.transactions ≡ list.items) × (result.count ≡ list.count) }
+fn as_block(list: Filled<Transaction, MOST_TRANSACTIONS>) -> Block
+    ensures { result ≡ as_block list }
 {
     let transactions = list.items;
     Block {
@@ -72,7 +80,15 @@ pub fn payments_block(w: &Pool) -> Block
     for payment in w.payments() {
         list.push(payment.transaction);
     }
-    block_of(list)
+    as_block(list)
+}
+
+// Every place of a transaction's inputs, used or not.
+fn push_slots(refs: &mut Refs, transaction: &Transaction)
+    ensures refs { refs.new ≡ with_items refs.old transaction.now.inputs }
+    ensures most { length transaction.now.inputs ≤ most_inputs }
+{
+    refs.extend(&transaction.inputs);
 }
 
 // The inputs of all payments, every place of each, used or not.
@@ -81,9 +97,7 @@ pub fn slots_of(w: &Pool) -> Refs
 {
     let mut refs = Refs::none(chain::zero_reference());
     for payment in w.payments() {
-        for input in &payment.transaction.inputs {
-            refs.push(*input);
-        }
+        push_slots(&mut refs, &payment.transaction);
     }
     refs
 }
@@ -98,5 +112,5 @@ pub fn pending_block(w: &Pool) -> Block
             list.push(payment.transaction);
         }
     }
-    block_of(list)
+    as_block(list)
 }

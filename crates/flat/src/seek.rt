@@ -1,5 +1,5 @@
 // Where each reference of one list stands in another.
-ghost use Rattle.std.specs.Prelude.{map, ◌≡◌, T};
+ghost use Rattle.std.specs.Prelude.{map, ◌≡◌};
 ghost use Rattle.flat.specs.Flat.{found_of, places_of, refs_in, seek};
 ghost use Rattle.rules.specs.Chain.{before_reference, same_reference};
 ghost use Rattle.sets.specs.Sets.{ascending, has};
@@ -7,50 +7,30 @@ ghost use Rattle.sets.specs.Sets.{ascending, has};
 use crate::{Found, Places, Refs};
 use rules::Reference;
 
-// Whether references strictly ascend.
-fn rises(refs: &[Reference]) -> bool
-    ensures { result ≡ ascending before_reference refs.now }
-{
-    refs.is_sorted_by(|a, b| a < b)
-}
-
-// The place of the first same reference, or the count where there is none, in a list that ascends: by halves.
-fn place_by_halves(r: &Reference, refs: &[Reference]) -> usize
-    requires { T (ascending before_reference refs.now) }
+// The place of the first same reference, or the count where there is none.
+fn place_of(r: &Reference, refs: &[Reference]) -> usize
     ensures { result ≡ seek r.now refs.now }
 {
-    refs.binary_search(r).unwrap_or(refs.len())
-}
-
-// The same in a list in any order.
-fn place_by_turns(r: &Reference, refs: &[Reference]) -> usize
-    ensures { result ≡ seek r.now refs.now }
-{
-    refs.iter().position(|x| x == r).unwrap_or(refs.len())
-}
-
-// The places of some references in a list, each by the same search.
-fn sought_by<F: Fn(&Reference) -> usize>(refs: &[Reference], place: F) -> Places
-    requires { F.IsAlwaysCallable place }
-{
-    let mut at = Places::none(0);
-    for r in refs {
-        at.push(place(r));
+    let mut place: usize = 0;
+    for x in refs {
+        if r == x {
+            return place;
+        }
+        place += 1;
     }
-    at
+    place
 }
 
 // For each reference of `a`, the place of the first same one in `b`, or the count of `b` where there is none.
 pub fn sought(a: Refs, b: Refs) -> Places
     ensures { result ≡ places_of (map (λ x. seek x (refs_in b)) (refs_in a)) }
 {
-    let these = a.as_slice();
     let those = b.as_slice();
-    if rises(those) {
-        sought_by(these, |r| place_by_halves(r, those))
-    } else {
-        sought_by(these, |r| place_by_turns(r, those))
+    let mut at = Places::none(0);
+    for r in a.as_slice() {
+        at.push(place_of(r, those));
     }
+    at
 }
 
 // Whether each reference of `a` stands in `b`.
@@ -58,8 +38,9 @@ pub fn found(a: Refs, b: Refs) -> Found
     ensures { result ≡ found_of (map (λ x. has same_reference x (refs_in b)) (refs_in a)) }
 {
     let stop = b.as_slice().len();
+    let at = sought(a, b);
     let mut found = Found::none(false);
-    for place in sought(a, b).as_slice() {
+    for place in at.as_slice() {
         found.push(*place < stop);
     }
     found

@@ -2,9 +2,10 @@
 // stands. Mark k is bit k of a word, and bit 0 is the present state.
 #![tactic(auto)]
 
-ghost use Rattle.std.specs.Prelude.{◌≡◌, take};
+ghost use Rattle.std.specs.Prelude.{◌≡◌, ◌≤◌, length, take};
 ghost use Rattle.pool.specs.Marks.{marked};
 ghost use Rattle.pool.specs.View.{entries_of, payments_of};
+ghost use Rattle.rules.specs.Sizes.{most_own, most_payments, most_references};
 
 use chain::Transaction;
 use rules::{Entry, MOST_OWN, MOST_PAYMENTS, MOST_REFERENCES};
@@ -64,19 +65,22 @@ pub struct Pool {
 // What its places hold. A count past the last place reads as all places.
 impl Pool {
     pub fn own(&self) -> &[u32]
-        ensures { result.now ≡ take self.now.owns self.now.own }
+        ensures own { result.now ≡ take self.now.owns self.now.own }
+        ensures most { length result.now ≤ most_own }
     {
         &self.own[..self.owns.min(MOST_OWN)]
     }
 
     pub fn entries(&self) -> &[Held]
-        ensures { result.now ≡ entries_of self.now }
+        ensures entries { result.now ≡ entries_of self.now }
+        ensures most { length result.now ≤ most_references }
     {
         &self.entries[..self.used.min(MOST_REFERENCES)]
     }
 
     pub fn payments(&self) -> &[Payment]
-        ensures { result.now ≡ payments_of self.now }
+        ensures payments { result.now ≡ payments_of self.now }
+        ensures most { length result.now ≤ most_payments }
     {
         &self.payments[..self.paying.min(MOST_PAYMENTS)]
     }
