@@ -1,6 +1,5 @@
 -- Lists laid flat into fixed memory, zeros behind, and the place at which a reference stands in a list.
-use Rattle.std.specs.Prelude.{ℕ, zero, suc, Bool, false, cond, List, [], ◌∷◌, map, length, take}
-use Rattle.sets.specs.Fill.{filled}
+use Rattle.std.specs.Prelude.{ℕ, suc, Bool, false, cond, List, [], ◌∷◌}
 use Rattle.rules.specs.declared.Reference.{Reference}
 use Rattle.rules.specs.declared.Entry.{Entry}
 use Rattle.rules.specs.Sizes.{most_references, most_transactions}

@@ -30,7 +30,7 @@ pub type Found = Filled<bool, MOST_REFERENCES>;
 pub fn is_own(own: &[u32], address: u32) -> bool
     ensures { result ≡ any (eqb address) own.now }
 {
-    own.iter().any(|a| address == *a)
+    own.contains(&address)
 }
 
 // What an unused place holds.

@@ -1,7 +1,5 @@
 use Rattle.std.proofs.Common.{◌≡◌, map, take}
-use Rattle.sets.specs.Sets.{keep}
 use Rattle.chain.specs.View.{zero_transaction}
-use Rattle.pool.specs.Marks.{marked}
 use Rattle.pool.specs.declared.Payment.{Payment}
 use Rattle.fixed.specs.Filled.{filled_of}
 use Rattle.flat.proofs.blocks.payments_block.Given as goal

@@ -1,4 +1,4 @@
-use Rattle.std.proofs.Common.{rules, ◌≡◌, arith, length, refl}
+use Rattle.std.proofs.Common.{rules, arith, refl}
 use Rattle.pool.specs.declared.Payment.{Payment}
 use Rattle.chain.specs.View.{zero_reference}
 use Rattle.fixed.specs.Laws.{gather_none, gather_extended, all_gathered}

@@ -1,4 +1,4 @@
-use Rattle.std.proofs.Common.{rules, ◌∙◌, ap, sym, take, arith, refl}
+use Rattle.std.proofs.Common.{rules, ◌∙◌, ap, sym, take, arith}
 use Rattle.sets.specs.Fill.{gather-map}
 use Rattle.chain.specs.View.{view_transaction, zero_reference}
 use Rattle.fixed.specs.Laws.{gather_none, gather_extended, all_gathered}
