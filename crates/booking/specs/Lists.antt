@@ -1,5 +1,5 @@
 -- The pool's lists in fixed memory, zeros behind.
-use Rattle.std.specs.Prelude.{ℕ, ◌*◌, List, length, take}
+use Rattle.std.specs.Prelude.{◌*◌, List}
 use Rattle.fixed.specs.declared.Filled.{Filled}
 use Rattle.fixed.specs.Filled.{filled_of, items_in}
 use Rattle.rules.specs.Sizes.{most_payments, most_references}
