@@ -1,48 +1,44 @@
-use Prim.Native.Nat.{◌-◌}
-use mathlib.Core.Path.{◌≡◌, refl, sym, ap, ◌∙◌}
-use mathlib.Core.Bool.{Bool, not, ◌&&◌}
-use native.Mathlib.Omega.{arith}
-use lib.ListN.{length, get_or, replicate}
-use Rattle.sets.specs.Fill.{flag_fits, mapped_length, gaining_start, gaining_turn}
-use Rattle.rules.specs.Sizes.{most_references}
+use Rattle.std.proofs.Common.{List, ◌&&◌, ◌∙◌, ap, map, not, sym}
+use Rattle.sets.specs.Sets.{keep}
 use Rattle.rules.specs.Chain.{spent}
 use Rattle.pool.specs.Book.{zero_held}
-use Rattle.pool.specs.Marks.{marked}
 use Rattle.pool.specs.View.{payments_of, pending_at}
 use Rattle.pool.specs.RefusalLaws.{is_available, available_places}
 use Rattle.pool.specs.declared.Held.{Held}
-use Rattle.flat.specs.Flat.{made_of, zero_entry}
-use Rattle.flat.specs.Told.{count_of}
-use Rattle.balance.specs.Picked.{entry_at, picked_all, picked_held, taken_back, found_of}
-use borrow.Author.Rules.{rules}
-use Rattle.balance.proofs.available_of.Invariants.{live}
+use Rattle.fixed.specs.Laws.{all_taken, map-keep_pushed, map-keep_passed}
+use Rattle.flat.specs.Flat.{made_of, refs_of}
+use Rattle.balance.specs.Picked.{found_at, taken_back}
 use Rattle.balance.proofs.available_of.Goals as goal
-
-pub loop-i-init : goal.loop-i-init
-loop-i-init c =
-    let places : length c.args.w.entries ≡ 128 = search (rules, mapped_length) in (
-      places,
-      search (rules, mapped_length),
-      gaining_start most_references zero_entry (live c.args.w.entries c.sought.result.items c.spent_of-taken.result.count) (entry_at c.args.w.entries) _ _ (omega (arith, count_of (λ (h : Held). h.entry.reference) c.args.w.entries c.args.w.used _ c.held_refs-refs.ensures)) (ap (replicate 128) c.zero_entry-kept.ensures),
-    )
-
-pub overflow_add-count : goal.overflow_add-count
-overflow_add-count c = flag_fits _ (live c.args.w.entries c.sought.result.items c.spent_of-taken.result.count c.loop-i.i) (search rules)
+use Rattle.balance.proofs.available_of.Goals.{then-is_unspent+then-not-is_taken-i, else-is_unspent, else-is_unspent-via-then-is_unspent+else-not-is_taken-i, else-is_unspent-via-else-is_unspent}
 
 pub loop-i-preserved : goal.loop-i-preserved
-loop-i-preserved c = (
-  c.loop-i.invariant.0,
-  c.loop-i.invariant.1,
-  gaining_turn most_references zero_entry (live c.args.w.entries c.sought.result.items c.spent_of-taken.result.count) (entry_at c.args.w.entries) _ _ _ c.loop-i.i _ _ (search rules) refl c.entry_if.ensures c.loop-i.invariant.2,
-)
+loop-i-preserved c =
+    let xs = c.entries-entries.result.now in
+    let ps = payments_of c.args.w in
+    let i = c.loop-i.i in
+    let unspent = sym c.is_unspent.ensures in
+    let told =
+    found_at (λ (h : Held). h.entry.reference) xs (spent (pending_at 0 ps)) _ _ _ _
+    (c.held_refs.ensures ∙ ap (λ (l : List Held). refs_of (map (λ h. h.entry.reference) l)) (sym c.entries-entries.ensures.entries))
+    (taken_back ps _ _ c.pending_block.ensures c.spent_of-taken.ensures) c.found-found.ensures c.as_slice-is_taken.ensures.items i zero_held
+    c.loop-i-test.true
+    in
+    elim c.if-is_unspent.branch [
+      | then-is_unspent+then-not-is_taken-i w ↦
+          map-keep_pushed _ _ (λ h. h.entry) (is_available ps) xs i zero_held _ _ c.loop-i.invariant c.loop-i-test.true
+          c.entries-entries.ensures.most
+          (λ t. (unspent ∙ w.if-is_unspent.true) t && not ((sym told ∙ w.if-not-is_taken-i.true) t)) (w.kept-is ∙ w.push.ensures)
+      | else-is_unspent w ↦
+          map-keep_passed _ _ (λ h. h.entry) (is_available ps) xs i zero_held _ (w.kept-is ∙ c.loop-i.invariant) c.loop-i-test.true
+          (elim w.else-is_unspent.branch [
+            | else-is_unspent-via-then-is_unspent+else-not-is_taken-i v ↦
+                λ t. (unspent ∙ v.if-is_unspent.true) t && not ((sym told ∙ v.if-not-is_taken-i.false) t)
+            | else-is_unspent-via-else-is_unspent v ↦ λ t. (unspent ∙ v.if-is_unspent.false) t && not (sym told t)
+          ])
+    ]
 
 pub returns : goal.returns
 returns c =
-    let places : length c.args.w.entries ≡ 128 = c.loop-i.invariant.0 in
-    let taken = taken_back (payments_of c.args.w) _ _ c.pending_block-pending.ensures c.spent_of-taken.ensures in
-    picked_all _ _ _ _ _ c.loop-i.i (search rules) c.loop-i.invariant.2
-    ∙ picked_held _ (is_available (payments_of c.args.w)) c.args.w.entries c.args.w.used _ places (omega (arith, count_of (λ (h : Held). h.entry.reference) c.args.w.entries c.args.w.used _ c.held_refs-refs.ensures))
-    (λ j h.
-    ap (λ (b : Bool). marked 0 (get_or c.args.w.entries j zero_held).utxo && not b)
-    (found_of (λ (h : Held). h.entry.reference) c.args.w.entries c.args.w.used _ c.held_refs-refs.ensures zero_held (spent (pending_at 0 (payments_of c.args.w))) _ _ j taken c.sought.ensures h))
-    ∙ sym (ap made_of (available_places c.args.w))
+    all_taken _ _ (λ l. map (λ h. h.entry) (keep (is_available (payments_of c.args.w)) l)) _ _ c.loop-i.i _ c.loop-i.invariant
+    c.loop-i-test.false c.entries-entries.ensures.entries
+    ∙ ap made_of (sym (available_places c.args.w))

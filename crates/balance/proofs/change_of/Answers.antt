@@ -1,77 +1,56 @@
-use Prim.Native.Nat.{ℕ, ◌-◌, ◌<◌}
-use mathlib.Core.Path.{◌≡◌, ap, ◌∙◌}
-use mathlib.Core.Bool.{Bool, not, ◌&&◌}
-use mathlib.Core.List.{map}
-use native.Mathlib.Omega.{arith}
-use lib.Dec.{ltb}
-use lib.ListN.{length, get_or, take, replicate, length-take}
-use Rattle.sets.specs.Fill.{flag_fits, mapped_length, take_capped, gaining_start, gaining_turn}
-use Rattle.rules.specs.Sizes.{most_references}
-use Rattle.rules.specs.Chain.{made, spent}
-use Rattle.rules.specs.Balances.{available}
+use Rattle.std.proofs.Common.{List, ◌&&◌, ◌∙◌, ap, eqb, get_or, map, not, sym, take}
+use Rattle.sets.specs.Sets.{any, keep}
 use Rattle.rules.specs.declared.Entry.{Entry}
-use Rattle.chain.specs.View.{view_block}
+use Rattle.rules.specs.Chain.{is_own, spent}
+use Rattle.rules.specs.Balances.{available}
 use Rattle.pool.specs.View.{entries_of, payments_of, pending_at, view}
 use Rattle.pool.specs.BalanceLaws.{is_change}
-use Rattle.flat.specs.Flat.{zero_entry}
-use Rattle.flat.specs.Told.{count_of}
-use Rattle.balance.specs.Picked.{picked_all, picked_made, made_fits, taken_back, outputs_back, free_back, found_of, change_told}
-use borrow.Author.Rules.{rules}
-use Rattle.balance.proofs.change_of.Invariants.{live}
+use Rattle.fixed.specs.Laws.{all_taken, kept_pushed, kept_passed}
+use Rattle.flat.specs.Flat.{zero_entry, refs_of}
+use Rattle.balance.specs.Picked.{found_at, taken_back, free_back, outputs_back, stands_free}
 use Rattle.balance.proofs.change_of.Goals as goal
-
-pub slice_bounds-own-end : goal.slice_bounds-own-end
-slice_bounds-own-end c =
-    let places : length c.args.w.own ≡ 32 = search (rules, c.well_formed.0) in
-    search rules
-
-pub slice_bounds-list-end : goal.slice_bounds-list-end
-slice_bounds-list-end c =
-    let places : length c.args.w.own ≡ 32 = search (rules, c.well_formed.0) in
-    omega (arith, length-take c.capped-owns.result c.args.w.own)
-
-pub loop-i-init : goal.loop-i-init
-loop-i-init c =
-    let places : length c.made_of-outputs.result.items ≡ 128 = search (mapped_length, c.made_of-outputs.type_inv) in (
-      places,
-      search (rules, c.sought.type_inv),
-      search (rules, c.sought-2.type_inv),
-      gaining_start most_references zero_entry (live (take c.capped-owns.result c.args.w.own) c.made_of-outputs.result.items c.sought.result.items c.spent_of-taken.result.count c.sought-2.result.items c.made_refs-free.result.count) (λ j. get_or c.made_of-outputs.result.items j zero_entry) _ _
-          (made_fits (made (view_block c.pending_block-pending.result)) c.made_of-outputs.result c.made_of-outputs.ensures places)
-          (ap (replicate 128) c.zero_entry-kept.ensures),
-    )
-
-pub overflow_add-count : goal.overflow_add-count
-overflow_add-count c =
-    flag_fits _ (c.is_own-is_own.result && not (ltb (get_or c.sought.result.items c.loop-i.i 0) c.spent_of-taken.result.count) && not (ltb (get_or c.sought-2.result.items c.loop-i.i 0) c.made_refs-free.result.count)) (search rules)
+use Rattle.balance.proofs.change_of.Goals.{then-is_own+then-not-is_taken-i+then-not-is_free-i, else-is_own, else-is_own-via-then-is_own+then-not-is_taken-i+else-not-is_free-i, else-is_own-via-then-is_own+else-not-is_taken-i, else-is_own-via-else-is_own}
 
 pub loop-i-preserved : goal.loop-i-preserved
+unfolding is_own
 loop-i-preserved c =
-    let is-taken : Bool = ltb (get_or c.sought.result.items c.loop-i.i 0) c.spent_of-taken.result.count in
-    let is_free : Bool = ltb (get_or c.sought-2.result.items c.loop-i.i 0) c.made_refs-free.result.count in (
-      c.loop-i.invariant.0,
-      c.loop-i.invariant.1,
-      c.loop-i.invariant.2,
-      gaining_turn most_references zero_entry (live (take c.capped-owns.result c.args.w.own) c.made_of-outputs.result.items c.sought.result.items c.spent_of-taken.result.count c.sought-2.result.items c.made_refs-free.result.count) (λ j. get_or c.made_of-outputs.result.items j zero_entry) _ _ _ c.loop-i.i (c.is_own-is_own.result && not is-taken && not is_free) _ (search rules)
-          (ap (λ (b : Bool). b && not is-taken && not is_free) c.is_own-is_own.ensures)
-          c.entry_if.ensures
-          c.loop-i.invariant.3,
-    )
+    let w0 = c.args.w in
+    let xs = c.as_slice-entries.result.now in
+    let i = c.loop-i.i in
+    let p = is_change (take w0.owns w0.own) (entries_of w0) (payments_of w0) in
+    let refs = c.made_refs-refs.ensures ∙ ap (λ (l : List Entry). refs_of (map (λ e. e.reference) l)) (sym c.as_slice-entries.ensures.items) in
+    let taken =
+    found_at (λ (e : Entry). e.reference) xs (spent (pending_at 0 (payments_of w0))) _ _ _ _ refs
+    (taken_back (payments_of w0) _ _ c.pending_block-pending.ensures c.spent_of.ensures) c.found-found_taken.ensures
+    c.as_slice-is_taken.ensures.items i zero_entry c.loop-i-test.true
+    in
+    let free =
+    found_at (λ (e : Entry). e.reference) xs (map (λ (e : Entry). e.reference) (available (view w0).present)) _ _ _ _ refs
+    (free_back w0 _ _ c.available_of.ensures c.made_refs.ensures) c.found-found_free.ensures
+    c.as_slice-is_free.ensures.items i zero_entry c.loop-i-test.true
+    ∙ stands_free w0 (get_or xs i zero_entry).reference
+    in
+    let own = sym (c.is_own.ensures ∙ ap (any (eqb (get_or xs i zero_entry).address)) c.own.ensures.own) in
+    elim c.if-is_own.branch [
+      | then-is_own+then-not-is_taken-i+then-not-is_free-i w ↦
+          kept_pushed _ _ p xs i zero_entry _ _ c.loop-i.invariant c.loop-i-test.true c.as_slice-entries.ensures.most
+          (λ t. (own ∙ w.if-is_own.true) t && not ((sym taken ∙ w.if-not-is_taken-i.true) t) && not ((sym free ∙ w.if-not-is_free-i.true) t))
+          (w.kept-is ∙ w.push.ensures)
+      | else-is_own w ↦
+          kept_passed _ _ p xs i zero_entry _ (w.kept-is ∙ c.loop-i.invariant) c.loop-i-test.true
+          (elim w.else-is_own.branch [
+            | else-is_own-via-then-is_own+then-not-is_taken-i+else-not-is_free-i v ↦
+                λ t. (own ∙ v.if-is_own.true) t && not ((sym taken ∙ v.if-not-is_taken-i.true) t) && not ((sym free ∙ v.if-not-is_free-i.false) t)
+            | else-is_own-via-then-is_own+else-not-is_taken-i v ↦
+                λ t. (own ∙ v.if-is_own.true) t && not ((sym taken ∙ v.if-not-is_taken-i.false) t) && not (sym free t)
+            | else-is_own-via-else-is_own v ↦ λ t. (own ∙ v.if-is_own.false) t && not (sym taken t) && not (sym free t)
+          ])
+    ]
 
 pub returns : goal.returns
 returns c =
-    let own : length c.args.w.own ≡ 32 = search (rules, c.well_formed.0) in
-    let list : take c.capped-owns.result c.args.w.own ≡ take c.args.w.owns c.args.w.own =
-    ap (λ (n : ℕ). take n c.args.w.own) c.capped-owns.ensures ∙ take_capped c.args.w.own c.args.w.owns 32 (omega arith)
-    in
-    let made_here = outputs_back (payments_of c.args.w) _ c.made_of-outputs.result c.pending_block-pending.ensures c.made_of-outputs.ensures in
-    let taken = taken_back (payments_of c.args.w) _ _ c.pending_block-pending.ensures c.spent_of-taken.ensures in
-    let free = free_back c.args.w _ _ c.available_of.ensures c.made_refs-free.ensures in
-    let places : length c.made_of-outputs.result.items ≡ 128 = c.loop-i.invariant.0 in
-    picked_all _ _ _ _ _ c.loop-i.i (search rules) c.loop-i.invariant.3
-    ∙ picked_made _ (is_change (take c.args.w.owns c.args.w.own) (entries_of c.args.w) (payments_of c.args.w)) (made (pending_at 0 (payments_of c.args.w))) c.made_of-outputs.result made_here places
-    (λ j h.
-    let inside : j < c.made_refs-refs.result.count = omega (arith, count_of (λ (e : Entry). e.reference) c.made_of-outputs.result.items c.made_of-outputs.result.count _ c.made_refs-refs.ensures) in
-    change_told c.args.w _ (get_or c.made_of-outputs.result.items j zero_entry) _ _ list
-    (found_of (λ (e : Entry). e.reference) c.made_of-outputs.result.items c.made_of-outputs.result.count _ c.made_refs-refs.ensures zero_entry (spent (pending_at 0 (payments_of c.args.w))) _ _ j taken c.sought.ensures inside)
-    (found_of (λ (e : Entry). e.reference) c.made_of-outputs.result.items c.made_of-outputs.result.count _ c.made_refs-refs.ensures zero_entry (map (λ (e : Entry). e.reference) (available (view c.args.w).present)) _ _ j free c.sought-2.ensures inside))
+    let w0 = c.args.w in
+    all_taken _ _ (keep (is_change (take w0.owns w0.own) (entries_of w0) (payments_of w0))) _ _ c.loop-i.i _ c.loop-i.invariant
+    c.loop-i-test.false
+    (c.as_slice-entries.ensures.items
+    ∙ outputs_back (payments_of w0) _ _ c.pending_block-pending.ensures c.made_of-outputs.ensures)
