@@ -2,7 +2,7 @@
 // the rules themselves are in specs/.
 #![tactic(auto)]
 
-// A transaction number. Nothing but its own two tests, same_number and before_number, looks inside.
+// A transaction number. Nothing but its own equality and order, same_number and before_number, looks inside.
 #[derive(Clone, Copy, Debug, Default, PartialEq, Eq, PartialOrd, Ord)]
 pub struct Number {
     pub serial: u64,
