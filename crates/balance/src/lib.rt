@@ -1,16 +1,17 @@
 // The present state's sets and their worth, read off the pool. Every function takes any struct.
 #![tactic(auto)]
 
-ghost use Rattle.std.specs.Prelude.{Bool, ◌≡◌, ◌<◌, ◌^◌, leb, map, sum_by, take};
+ghost use Rattle.std.specs.Prelude.{Bool, not, ◌&&◌, ◌≡◌, ◌<◌, ◌^◌, eqb, leb, map, sum_by, take};
 ghost use Rattle.std.specs.Fn.{AnyResult};
 ghost use Rattle.balance.specs.Worth.{worth_within};
 ghost use Rattle.flat.specs.Flat.{made_in, made_of};
 ghost use Rattle.pool.specs.BalanceLaws.{is_change};
+ghost use Rattle.pool.specs.Marks.{marked};
 ghost use Rattle.pool.specs.View.{entries_of, expected_at, payments_of, pending_at, utxo_at, view};
 ghost use Rattle.rules.specs.Balances.{available};
 ghost use Rattle.rules.specs.Chain.{made};
 ghost use Rattle.rules.specs.Sizes.{largest_amount};
-ghost use Rattle.sets.specs.Sets.{all, keep};
+ghost use Rattle.sets.specs.Sets.{all, any, keep};
 
 use flat::Made;
 use pool::{Held, Pool};
@@ -44,6 +45,13 @@ pub fn expected_of(w: Pool) -> Made
     entries_where(&w, |held| held.is_expected())
 }
 
+// Whether an output is available, given whether a pending payment takes it.
+fn is_available(held: &Held, is_taken: bool) -> bool
+    ensures { result ≡ (marked 0 held.now.utxo && not is_taken) }
+{
+    held.is_unspent() && !is_taken
+}
+
 // The unspent outputs that no pending payment takes.
 pub fn available_of(w: Pool) -> Made
     ensures { result ≡ made_of (available (view w).present) }
@@ -54,11 +62,18 @@ pub fn available_of(w: Pool) -> Made
     let entries = w.entries();
     let mut kept = Made::none(flat::zero_entry());
     for i in 0..entries.len() {
-        if entries[i].is_unspent() && !is_taken[i] {
+        if is_available(&entries[i], is_taken[i]) {
             kept.push(entries[i].entry);
         }
     }
     kept
+}
+
+// Whether an output of a pending payment is change, given whether one takes it and whether it is available already.
+fn is_change(own: &[u32], output: &Entry, is_taken: bool, is_free: bool) -> bool
+    ensures { result ≡ (any (eqb output.now.address) own.now && not is_taken && not is_free) }
+{
+    flat::is_own(own, output.address) && !is_taken && !is_free
 }
 
 // The change: own outputs of pending payments that no pending payment takes, and that are not available already.
@@ -72,10 +87,11 @@ pub fn change_of(w: Pool) -> Made
     let found_free = flat::found(refs, flat::made_refs(available_of(w)));
     let is_taken = found_taken.as_slice();
     let is_free = found_free.as_slice();
+    let own = w.own();
     let entries = outputs.as_slice();
     let mut kept = Made::none(flat::zero_entry());
     for i in 0..entries.len() {
-        if flat::is_own(w.own(), entries[i].address) && !is_taken[i] && !is_free[i] {
+        if is_change(own, &entries[i], is_taken[i], is_free[i]) {
             kept.push(entries[i]);
         }
     }

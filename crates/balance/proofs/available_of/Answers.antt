@@ -1,7 +1,8 @@
-use Rattle.std.proofs.Common.{List, ◌&&◌, ◌∙◌, ap, map, not, sym}
+use Rattle.std.proofs.Common.{List, ◌&&◌, ◌∙◌, ap, get_or, map, not, sym}
 use Rattle.sets.specs.Sets.{keep}
 use Rattle.rules.specs.Chain.{spent}
 use Rattle.pool.specs.Book.{zero_held}
+use Rattle.pool.specs.Marks.{marked}
 use Rattle.pool.specs.View.{payments_of, pending_at}
 use Rattle.pool.specs.RefusalLaws.{is_available, available_places}
 use Rattle.pool.specs.declared.Held.{Held}
@@ -9,32 +10,27 @@ use Rattle.fixed.specs.Laws.{all_taken, map-keep_pushed, map-keep_passed}
 use Rattle.flat.specs.Flat.{made_of, refs_of}
 use Rattle.balance.specs.Picked.{found_at, taken_back}
 use Rattle.balance.proofs.available_of.Goals as goal
-use Rattle.balance.proofs.available_of.Goals.{then-is_unspent+then-not-is_taken-i, else-is_unspent, else-is_unspent-via-then-is_unspent+else-not-is_taken-i, else-is_unspent-via-else-is_unspent}
+use Rattle.balance.proofs.available_of.Goals.{then-is_available, else-is_available}
 
 pub loop-i-preserved : goal.loop-i-preserved
 loop-i-preserved c =
     let xs = c.entries-entries.result.now in
     let ps = payments_of c.args.w in
     let i = c.loop-i.i in
-    let unspent = sym c.is_unspent.ensures in
-    let told =
+    let taken =
     found_at (λ (h : Held). h.entry.reference) xs (spent (pending_at 0 ps)) _ _ _ _
     (c.held_refs.ensures ∙ ap (λ (l : List Held). refs_of (map (λ h. h.entry.reference) l)) (sym c.entries-entries.ensures.entries))
     (taken_back ps _ _ c.pending_block.ensures c.spent_of-taken.ensures) c.found-found.ensures c.as_slice-is_taken.ensures.items i zero_held
     c.loop-i-test.true
     in
-    elim c.if-is_unspent.branch [
-      | then-is_unspent+then-not-is_taken-i w ↦
+    let told = sym (c.is_available.ensures ∙ (λ t. marked 0 (get_or xs i zero_held).utxo && not (taken t))) in
+    elim c.if-is_available.branch [
+      | then-is_available w ↦
           map-keep_pushed _ _ (λ h. h.entry) (is_available ps) xs i zero_held _ _ c.loop-i.invariant c.loop-i-test.true
-          c.entries-entries.ensures.most
-          (λ t. (unspent ∙ w.if-is_unspent.true) t && not ((sym told ∙ w.if-not-is_taken-i.true) t)) (w.kept-is ∙ w.push.ensures)
-      | else-is_unspent w ↦
+          c.entries-entries.ensures.most (told ∙ w.if-is_available.true) (w.kept-is ∙ w.push.ensures)
+      | else-is_available w ↦
           map-keep_passed _ _ (λ h. h.entry) (is_available ps) xs i zero_held _ (w.kept-is ∙ c.loop-i.invariant) c.loop-i-test.true
-          (elim w.else-is_unspent.branch [
-            | else-is_unspent-via-then-is_unspent+else-not-is_taken-i v ↦
-                λ t. (unspent ∙ v.if-is_unspent.true) t && not ((sym told ∙ v.if-not-is_taken-i.false) t)
-            | else-is_unspent-via-else-is_unspent v ↦ λ t. (unspent ∙ v.if-is_unspent.false) t && not (sym told t)
-          ])
+          (told ∙ w.if-is_available.false)
     ]
 
 pub returns : goal.returns
