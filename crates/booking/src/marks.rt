@@ -15,13 +15,13 @@ use rules::{Entry, Reference};
 fn raise(word: u8, present: bool) -> u8
     ensures { result ≡ raised word present }
 {
-    word % 128 * 2 + (present as u8)
+    word % 128 * 2 + u8::from(present)
 }
 
 fn lower(word: u8, present: bool) -> u8
     ensures { result ≡ lowered word present }
 {
-    word / 4 * 2 + (present as u8)
+    word / 4 * 2 + u8::from(present)
 }
 
 // Whether the mark below the present one stands in a word.
