@@ -35,17 +35,16 @@ fn is_single(bring: &Bring) -> bool
 }
 
 // The rows, each raised by what it alone can bring.
-fn settled_rows(rows: [Row; MOST_PAYMENTS], brings: &[Bring]) -> [Row; MOST_PAYMENTS]
+fn settled_rows(mut rows: [Row; MOST_PAYMENTS], brings: &[Bring]) -> [Row; MOST_PAYMENTS]
     requires { SettleFit rows brings.now }
     ensures { result ≡ settled_rows brings.now rows }
 {
-    let mut raised = rows;
     for bring in brings {
         if is_single(bring) {
-            raised[bring.hard.trailing_zeros() as usize].adds += bring.amount;
+            rows[bring.hard.trailing_zeros() as usize].adds += bring.amount;
         }
     }
-    raised
+    rows
 }
 
 // The brings that are not single.

@@ -4,4 +4,4 @@ use Rattle.tables.specs.Tables.{settled_rows}
 use Rattle.minimum.proofs.settle.settled_rows.Given as goal
 
 abbrev pub invariant-loop-bring : goal.invariant-loop-bring
-invariant-loop-bring l = l.raised ≡ settled_rows (take l.bring-index l.brings) l.initial.raised
+invariant-loop-bring l = l.rows ≡ settled_rows (take l.bring-index l.brings) l.initial.rows
