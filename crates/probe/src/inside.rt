@@ -39,7 +39,7 @@ impl fmt::Display for Payments<'_> {
 // A set's name and its entries, on a line.
 fn print_set(rt: &impl Print, name: &str, list: &Made) -> io::Result<()> {
     let count = list.count.min(MOST_REFERENCES);
-    println!(rt; "{name}{}", Entries(&list.entries[..count]))
+    println!(rt; "{name}{}", Entries(list.as_slice()))
 }
 
 fn print_pending(rt: &impl Print, list: &Block) -> io::Result<()> {

@@ -3,7 +3,6 @@
 
 ghost use Rattle.std.specs.Prelude.{◌≡◌, ◌≤◌, IfOk, suc, length};
 ghost use Rattle.format.specs.Feed.{most_bytes};
-ghost use Rattle.lines.specs.Lengths.{most_sheet};
 
 use lines::MOST_SHEET;
 use std::io::{Read, Result, Stdin, Write};
@@ -11,17 +10,11 @@ use std::io::{Read, Result, Stdin, Write};
 // One byte more than the longest feed, so that a longer one is seen to be too long.
 const MOST_INPUT: usize = 65_537;
 
-// Zeros to read into, and to write a sheet into.
+// Zeros to read into. The `ensures` ties the size to the definition's.
 fn input() -> [u8; MOST_INPUT]
     ensures { suc most_bytes ≡ length result }
 {
     [0; MOST_INPUT]
-}
-
-fn output() -> [u8; MOST_SHEET]
-    ensures { most_sheet ≡ length result }
-{
-    [0; MOST_SHEET]
 }
 
 // Reads until the buffer is full or the input ends, and answers with how many bytes it put at the buffer's start.
@@ -43,8 +36,7 @@ fn read_full(input: Stdin, buffer: &mut [u8]) -> Result<usize>
 fn main(rt: HostRuntime) -> Result<()> {
     let mut feed = input();
     let size = read_full(rt.stdin(), &mut feed)?;
-    let mut sheet = output();
+    let mut sheet = [0u8; MOST_SHEET];
     let written = lines::sheet_of(&feed[..size], &mut sheet);
-    let long = written.length;
-    rt.stdout().write_all(&sheet[..long])
+    rt.stdout().write_all(&sheet[..written.length])
 }
