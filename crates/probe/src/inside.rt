@@ -4,7 +4,7 @@ use crate::damage::{DAMAGES, Damage};
 use crate::events::{Told, row_event, unopened};
 use chain::{Block, Transaction};
 use flat::Made;
-use rules::{Entry, MOST_REFERENCES, MOST_TRANSACTIONS};
+use rules::Entry;
 use std::{fmt, io};
 use wallet::Wallet;
 
@@ -38,13 +38,11 @@ impl fmt::Display for Payments<'_> {
 
 // A set's name and its entries, on a line.
 fn print_set(rt: &impl Print, name: &str, list: &Made) -> io::Result<()> {
-    let count = list.count.min(MOST_REFERENCES);
     println!(rt; "{name}{}", Entries(list.as_slice()))
 }
 
 fn print_pending(rt: &impl Print, list: &Block) -> io::Result<()> {
-    let count = list.count.min(MOST_TRANSACTIONS);
-    println!(rt; "pending{}", Payments(&list.transactions[..count]))
+    println!(rt; "pending{}", Payments(list.transactions()))
 }
 
 fn kind_name(kind: u8) -> &'static str {
