@@ -1,19 +1,19 @@
 // The present state's sets and their worth, read off the pool. Every function takes any struct.
 #![tactic(auto)]
 
-ghost use Rattle.std.specs.Prelude.{Bool, not, ◌&&◌, ◌≡◌, ◌<◌, ◌^◌, eqb, leb, map, sum_by, take};
+ghost use Rattle.std.specs.Prelude.{Bool, ◌≡◌, ◌<◌, ◌^◌, leb, map, sum_by, take};
 ghost use Rattle.std.specs.Fn.{AnyResult};
 ghost use Rattle.balance.specs.Worth.{worth_within};
-ghost use Rattle.flat.specs.Flat.{made_in, made_of};
+ghost use Rattle.flat.specs.Flat.{made_in, made_of, refs_in, refs_of};
 ghost use Rattle.pool.specs.BalanceLaws.{is_change};
-ghost use Rattle.pool.specs.Marks.{marked};
 ghost use Rattle.pool.specs.View.{entries_of, expected_at, payments_of, pending_at, utxo_at, view};
 ghost use Rattle.rules.specs.Balances.{available};
-ghost use Rattle.rules.specs.Chain.{made};
+ghost use Rattle.rules.specs.Chain.{made, spent};
 ghost use Rattle.rules.specs.Sizes.{largest_amount};
-ghost use Rattle.sets.specs.Sets.{all, any, keep};
+ghost use Rattle.rules.specs.States.{own_made, without_references};
+ghost use Rattle.sets.specs.Sets.{all, keep};
 
-use flat::Made;
+use flat::{Made, Refs};
 use pool::{Held, Pool};
 use rules::{Entry, LARGEST_AMOUNT};
 
@@ -45,57 +45,47 @@ pub fn expected_of(w: Pool) -> Made
     entries_where(&w, |held| held.is_expected())
 }
 
-// Whether an output is available, given whether a pending payment takes it.
-fn is_available(held: &Held, is_taken: bool) -> bool
-    ensures { result ≡ (marked 0 held.now.utxo && not is_taken) }
+// What the pending payments take.
+fn taken_of(w: &Pool) -> Refs
+    ensures { result ≡ refs_of (spent (pending_at 0 (payments_of w.now))) }
 {
-    held.is_unspent() && !is_taken
+    flat::spent_of(flat::pending_block(w))
+}
+
+// The entries of a list whose references do not stand in another.
+fn without(made: Made, refs: Refs) -> Made
+    ensures { result ≡ made_of (without_references (refs_in refs) (made_in made)) }
+{
+    let found = flat::found(flat::made_refs(made), refs);
+    let mut kept = Made::none(flat::zero_entry());
+    for (entry, is_found) in made.as_slice().iter().zip(found.as_slice()) {
+        if !*is_found {
+            kept.push(*entry);
+        }
+    }
+    kept
 }
 
 // The unspent outputs that no pending payment takes.
 pub fn available_of(w: Pool) -> Made
     ensures { result ≡ made_of (available (view w).present) }
 {
-    let taken = flat::spent_of(flat::pending_block(&w));
-    let found = flat::found(flat::held_refs(&w), taken);
-    let is_taken = found.as_slice();
-    let entries = w.entries();
-    let mut kept = Made::none(flat::zero_entry());
-    for i in 0..entries.len() {
-        if is_available(&entries[i], is_taken[i]) {
-            kept.push(entries[i].entry);
-        }
-    }
-    kept
+    without(utxo_of(w), taken_of(&w))
 }
 
-// Whether an output of a pending payment is change, given whether one takes it and whether it is available already.
-fn is_change(own: &[u32], output: &Entry, is_taken: bool, is_free: bool) -> bool
-    ensures { result ≡ (any (eqb output.now.address) own.now && not is_taken && not is_free) }
+// The own outputs of the pending payments.
+fn own_made(w: &Pool) -> Made
+    ensures { result ≡ made_of (own_made (take w.now.owns w.now.own) (pending_at 0 (payments_of w.now))) }
 {
-    flat::is_own(own, output.address) && !is_taken && !is_free
+    flat::own_of(flat::made_of(flat::pending_block(w)), w.own())
 }
 
 // The change: own outputs of pending payments that no pending payment takes, and that are not available already.
 pub fn change_of(w: Pool) -> Made
     ensures { result ≡ made_of (keep (is_change (take w.owns w.own) (entries_of w) (payments_of w)) (made (pending_at 0 (payments_of w)))) }
 {
-    let pending = flat::pending_block(&w);
-    let outputs = flat::made_of(pending);
-    let refs = flat::made_refs(outputs);
-    let found_taken = flat::found(refs, flat::spent_of(pending));
-    let found_free = flat::found(refs, flat::made_refs(available_of(w)));
-    let is_taken = found_taken.as_slice();
-    let is_free = found_free.as_slice();
-    let own = w.own();
-    let entries = outputs.as_slice();
-    let mut kept = Made::none(flat::zero_entry());
-    for i in 0..entries.len() {
-        if is_change(own, &entries[i], is_taken[i], is_free[i]) {
-            kept.push(entries[i]);
-        }
-    }
-    kept
+    let left = without(own_made(&w), taken_of(&w));
+    without(left, flat::made_refs(available_of(w)))
 }
 
 // Whether every amount is within the limit.
