@@ -21,9 +21,9 @@ pub(crate) struct Settled {
 
 // The brings that are left.
 #[derive(Clone, Copy)]
-pub(crate) struct Kept {
-    pub brings: [Bring; MOST_REFERENCES],
-    pub count: usize,
+struct Kept {
+    brings: [Bring; MOST_REFERENCES],
+    count: usize,
 }
 
 // Whether exactly one payment can bring the entry.
