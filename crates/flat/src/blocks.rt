@@ -95,22 +95,22 @@ fn push_slots(refs: &mut Refs, transaction: &Transaction)
 pub fn slots_of(w: &Pool) -> Refs
     ensures { result ≡ refs_of (gather (λ p. p.transaction.inputs) (payments_of w.now)) }
 {
-    let mut refs = Refs::none(chain::zero_reference());
+    let mut slots = Refs::none(chain::zero_reference());
     for payment in w.payments() {
-        push_slots(&mut refs, &payment.transaction);
+        push_slots(&mut slots, &payment.transaction);
     }
-    refs
+    slots
 }
 
 // The transactions of the payments that are pending in the present state, as a block.
 pub fn pending_block(w: &Pool) -> Block
     ensures { result ≡ block_of (map (λ p. p.transaction) (keep (λ p. marked 0 p.pending) (payments_of w.now))) }
 {
-    let mut list = Filled::none(chain::zero_transaction());
+    let mut pending = Filled::none(chain::zero_transaction());
     for payment in w.payments() {
         if payment.is_pending() {
-            list.push(payment.transaction);
+            pending.push(payment.transaction);
         }
     }
-    as_block(list)
+    as_block(pending)
 }

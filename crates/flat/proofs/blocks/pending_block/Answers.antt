@@ -15,9 +15,9 @@ loop-payment-preserved c =
       | then-is_pending w ↦
           map-keep_pushed _ _ (λ p. p.transaction) (λ (p : Payment). marked 0 p.pending) xs i _ _ _ c.loop-payment.invariant
           c.loop-payment-test.true c.payments-payment-items.ensures.most (sym c.is_pending.ensures ∙ w.if-is_pending.true)
-          (w.list-is ∙ w.push.ensures)
+          (w.pending-is ∙ w.push.ensures)
       | else-is_pending w ↦
-          map-keep_passed _ _ (λ p. p.transaction) (λ (p : Payment). marked 0 p.pending) xs i _ _ (w.list-is ∙ c.loop-payment.invariant)
+          map-keep_passed _ _ (λ p. p.transaction) (λ (p : Payment). marked 0 p.pending) xs i _ _ (w.pending-is ∙ c.loop-payment.invariant)
           c.loop-payment-test.true (sym c.is_pending.ensures ∙ w.if-is_pending.false)
     ]
 

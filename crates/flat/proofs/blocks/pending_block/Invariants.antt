@@ -8,4 +8,4 @@ use Rattle.flat.proofs.blocks.pending_block.Given as goal
 
 abbrev pub invariant-loop-payment : goal.invariant-loop-payment
 invariant-loop-payment l =
-    l.list ≡ filled_of 16 zero_transaction (map {A = Payment} (λ p. p.transaction) (keep (λ p. marked 0 p.pending) (take l.payment-index l.payment-items)))
+    l.pending ≡ filled_of 16 zero_transaction (map {A = Payment} (λ p. p.transaction) (keep (λ p. marked 0 p.pending) (take l.payment-index l.payment-items)))
