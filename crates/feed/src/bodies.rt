@@ -52,6 +52,7 @@ pub struct BodyRead {
     pub payment: Transaction,
 }
 
+// The empty own list; a derived Default's contract has no equation for an array.
 fn zero_own() -> Own
     ensures { result ≡ no_own }
 {
@@ -61,6 +62,7 @@ fn zero_own() -> Own
     }
 }
 
+// The empty block.
 fn zero_block() -> Block
     ensures { result ≡ no_block }
 {
@@ -111,6 +113,7 @@ fn whole<T: Copy>(read: Item<T>, size: usize, zero: T) -> Read<T>
     }
 }
 
+// An own list from the body's start.
 fn own_list(bytes: &[u8]) -> Item<Own>
     ensures { field_read result ≡ formed own_struct (read_own bytes.now 0) }
 {
@@ -118,6 +121,7 @@ fn own_list(bytes: &[u8]) -> Item<Own>
     Ok((Own { addresses, count }, next))
 }
 
+// A block from the body's start.
 fn block(bytes: &[u8]) -> Item<Block>
     ensures { field_read result ≡ formed block_of (read_block bytes.now 0) }
 {

@@ -1,4 +1,5 @@
-// Fields: numbers of some bytes, little endian, each with a rule that it has to keep.
+// Fields: numbers of some bytes, little endian, each with a rule that it has to keep. Bytes and place are passed apart, since
+// a reading hands on the next place as a number.
 ghost use Rattle.std.specs.Prelude.{ℕ, Bool, ◌≡◌, ◌&&◌, ◌+◌, ◌^◌, ◌<◌, ◌≤◌, leb, ltb, get_or, T, IfOk, IfErr};
 ghost use Rattle.rules.specs.Sizes.{fewest_inputs, most_inputs};
 ghost use Rattle.format.specs.Fields.{any_number, field, follows, number_at};

@@ -28,6 +28,7 @@ pub struct Read<T> {
 }
 
 impl<T> Read<T> {
+    // A fault, with zeros beside it.
     pub(crate) fn fault(fault: Fault, zero: T) -> Self
         ensures { result ≡ record { answer = Err fault; value = zero } }
     {
