@@ -34,6 +34,14 @@ fn push<T: Copy>(places: &mut [T], count: &mut usize, item: T) {
     }
 }
 
+// Another thing in one place; nothing where there is no such place.
+pub(crate) fn put<T: Copy>(places: &mut [T], place: u64, item: T) {
+    let place = place as usize;
+    if place < places.len() {
+        places[place] = item;
+    }
+}
+
 // The transaction whose number is the first, or a later one, of a line. Behind a semicolon stand other counts.
 pub(crate) fn transaction_in(line: Line, first: usize) -> Transaction
     requires { first ≤ 2 }
@@ -68,27 +76,24 @@ fn income(serial: u64, amount: u64) -> Transaction {
     };
     t.takes = 1;
     for index in 0..8 {
-        push(
-            &mut t.outputs,
-            &mut t.makes,
-            Output {
-                index,
-                address: 10,
-                amount,
-            },
-        );
+        let output = Output {
+            index,
+            address: 10,
+            amount,
+        };
+        push(&mut t.outputs, &mut t.makes, output);
     }
     t
 }
 
-// The block with as many incomes more, of neighbouring numbers.
+fn add(block: &mut Block, t: Transaction) {
+    push(&mut block.transactions, &mut block.count, t);
+}
+
+// As many incomes, of neighbouring numbers.
 fn add_incomes(block: &mut Block, count: u64, first: u64, amount: u64) {
     for i in 0..count {
-        push(
-            &mut block.transactions,
-            &mut block.count,
-            income(first.wrapping_add(i), amount),
-        );
+        add(block, income(first.wrapping_add(i), amount));
     }
 }
 
@@ -103,24 +108,11 @@ fn add_line(block: &mut Block, line: Line) {
             add_incomes(block, count, first, amount);
         }
         b'c' => block.count = line.number(0) as usize,
-        b'p' => put(
-            &mut block.transactions,
-            line.number(0),
-            transaction_in(line, 1),
-        ),
-        _ => push(
-            &mut block.transactions,
-            &mut block.count,
-            transaction_in(line, 0),
-        ),
-    }
-}
-
-// Another thing in one place; nothing where there is no such place.
-pub(crate) fn put<T: Copy>(places: &mut [T], place: u64, item: T) {
-    let place = place as usize;
-    if place < places.len() {
-        places[place] = item;
+        b'p' => {
+            let t = transaction_in(line, 1);
+            put(&mut block.transactions, line.number(0), t);
+        }
+        _ => add(block, transaction_in(line, 0)),
     }
 }
 
@@ -130,11 +122,8 @@ pub(crate) fn block_below(line: Line) -> Block {
         transactions: [chain::zero_transaction(); MOST_TRANSACTIONS],
         count: 0,
     };
-    for below in line
-        .below()
-        .take_while(|below| below.letter(0) == b' ')
-        .take(MOST_LINES)
-    {
+    let indented = line.below().take_while(|below| below.letter(0) == b' ');
+    for below in indented.take(MOST_LINES) {
         add_line(&mut block, below);
     }
     block

@@ -8,8 +8,8 @@ use wallet::{Amount, Listed, Pending, Step, Wallet};
 // What a call answered, and whether it had nothing else to say: no movement and the same wallet, no amount, no list.
 #[derive(Clone, Copy)]
 pub(crate) struct Call {
-    pub answer: u32,
-    pub still: bool,
+    answer: u32,
+    still: bool,
 }
 
 impl From<Amount> for Call {
@@ -68,20 +68,23 @@ fn of_step(before: Wallet, came: Step) -> Call {
     }
 }
 
-// The three steps, with a block and a payment that the case F takes after its row 6.
-pub(crate) fn steps(w: Wallet) -> [Call; 3] {
+// How many calls answered 9, and how many had nothing else to say.
+pub(crate) fn nines(calls: &[Call]) -> usize {
+    calls.iter().filter(|call| call.answer == 9).count()
+}
+
+pub(crate) fn still(calls: &[Call]) -> usize {
+    calls.iter().filter(|call| call.still).count()
+}
+
+// The three steps, with a block and a payment that the case F takes after its row 6, and the nine queries.
+pub(crate) fn calls(w: Wallet) -> [Call; 12] {
     let block = block_below(Line(b"block\n  900: 1.0 -> 0=10:5"));
     let payment = transaction_in(Line(b"901: 100.1 -> 0=10:40"), 0);
     [
         of_step(w, w.block(block)),
         of_step(w, w.pay(payment)),
         of_step(w, w.roll_back()),
-    ]
-}
-
-// The nine queries.
-pub(crate) fn queries(w: Wallet) -> [Call; 9] {
-    [
         w.available().into(),
         w.total().into(),
         w.held().into(),

@@ -1,5 +1,5 @@
 // The checks: each writes what came of the last step, or of a query, and tells whether it is what the line wants.
-use crate::calls::{queries, steps};
+use crate::calls::{calls, nines, still};
 use crate::desk::Desk;
 use crate::line::Line;
 use alike::same_wallet;
@@ -19,17 +19,17 @@ fn signed(line: Line, movement: i64) -> bool {
 
 // ? done ANSWER MOVEMENT
 fn done(rt: &impl Print, line: Line, desk: &Desk) -> io::Result<bool> {
-    let answer = desk.answer;
-    let movement = desk.movement;
+    let answer = desk.last.answer;
+    let movement = desk.last.movement;
     print!(rt; ": answer {answer}, moved {movement}")?;
     Ok(wanted(line, [answer as u64, movement.unsigned_abs(), 0, 0]) && signed(line, movement))
 }
 
 // ? refused ANSWER: no movement, and the very wallet that came in
 fn refused(rt: &impl Print, line: Line, desk: &Desk) -> io::Result<bool> {
-    let answer = desk.answer;
-    let movement = desk.movement;
-    let same = same_wallet(desk.before, desk.wallet);
+    let answer = desk.last.answer;
+    let movement = desk.last.movement;
+    let same = same_wallet(desk.before, desk.last.wallet);
     print!(rt; ": answer {answer}, moved {movement}")?;
     if same {
         print!(rt; ", wallet the same")?;
@@ -39,10 +39,10 @@ fn refused(rt: &impl Print, line: Line, desk: &Desk) -> io::Result<bool> {
 
 // ? case ANSWER AVAILABLE TOTAL MOVEMENT
 fn case(rt: &impl Print, line: Line, desk: &Desk) -> io::Result<bool> {
-    let answer = desk.answer;
-    let movement = desk.movement;
-    let available = desk.wallet.available().amount;
-    let total = desk.wallet.total().amount;
+    let answer = desk.last.answer;
+    let movement = desk.last.movement;
+    let available = desk.last.wallet.available().amount;
+    let total = desk.last.wallet.total().amount;
     print!(rt; ": answer {answer}, available {available}, total {total}, moved {movement}")?;
     let came = [answer as u64, available, total, movement.unsigned_abs()];
     Ok(wanted(line, came) && signed(line, movement))
@@ -91,65 +91,58 @@ fn numbers(rt: &impl Print, line: Line, came: Pending) -> io::Result<bool> {
 }
 
 // ? minimum AMOUNT PAYMENTS PENDING: the minimum, the fewest payments that reach it, and how many are pending
-fn least(rt: &impl Print, line: Line, least: Least, pending: u64) -> io::Result<bool> {
-    let amount = least.amount;
-    let payments = least.payments;
+fn least(rt: &impl Print, line: Line, came: Least, pending: usize) -> io::Result<bool> {
+    let Least {
+        answer,
+        amount,
+        payments,
+    } = came;
     print!(rt; ": {amount} with {payments} of {pending} payments")?;
-    Ok(least.answer == 0 && wanted(line, [amount, payments as u64, pending, 0]))
+    Ok(answer == 0 && wanted(line, [amount, payments as u64, pending as u64, 0]))
 }
 
 // ? balances AVAILABLE TOTAL MINIMUM PAYMENTS: what one call gives
-fn three(rt: &impl Print, line: Line, three: ThreeBalances) -> io::Result<bool> {
-    let available = three.available;
-    let total = three.total;
-    let minimum = three.minimum;
-    let payments = three.payments;
+fn three(rt: &impl Print, line: Line, came: ThreeBalances) -> io::Result<bool> {
+    let ThreeBalances {
+        answer,
+        available,
+        total,
+        minimum,
+        payments,
+    } = came;
     print!(rt; ": available {available}, total {total}, minimum {minimum} with {payments}")?;
-    Ok(three.answer == 0 && wanted(line, [available, total, minimum, payments as u64]))
+    Ok(answer == 0 && wanted(line, [available, total, minimum, payments as u64]))
 }
 
 // ? sound: no call answers 9
 fn sound(rt: &impl Print, w: Wallet) -> io::Result<bool> {
-    let steps = steps(w);
-    let queries = queries(w);
-    let nines = steps
-        .iter()
-        .chain(&queries)
-        .filter(|call| call.answer == 9)
-        .count();
+    let nines = nines(&calls(w));
     print!(rt; ": {nines} of 12 calls answered 9")?;
     Ok(nines == 0)
 }
 
 // ? faulty: 9 from each call, and nothing else
 fn faulty(rt: &impl Print, w: Wallet) -> io::Result<bool> {
-    let steps = steps(w);
-    let queries = queries(w);
-    let nines = steps
-        .iter()
-        .chain(&queries)
-        .filter(|call| call.answer == 9)
-        .count();
-    let empty = queries.iter().filter(|call| call.still).count();
-    let same = steps.iter().filter(|call| call.still).count();
-    print!(rt;
-        ": {nines} of 12 calls answered 9, {empty} of 9 queries empty, {same} of 3 wallets the same"
-    )?;
+    let calls = calls(w);
+    let nines = nines(&calls);
+    let same = still(&calls[..3]);
+    let empty = still(&calls[3..]);
+    print!(rt; ": {nines} of 12 calls answered 9, {empty} of 9 queries empty")?;
+    print!(rt; ", {same} of 3 wallets the same")?;
     Ok(nines == 12 && empty == 9 && same == 3)
 }
 
 // A check by its letter.
 fn passes(rt: &impl Print, line: Line, desk: &Desk) -> io::Result<bool> {
-    let w = desk.wallet;
-    let pending = w.pending_list();
+    let w = desk.last.wallet;
     match line.letter(2) {
         b'd' => done(rt, line, desk),
         b'r' => refused(rt, line, desk),
         b'c' => case(rt, line, desk),
         b'l' => like(rt, w, desk.there(line)),
         b'o' => only_of(rt, line, w),
-        b'n' => numbers(rt, line, pending),
-        b'm' => least(rt, line, minimum::minimum(w), pending.list.count as u64),
+        b'n' => numbers(rt, line, w.pending_list()),
+        b'm' => least(rt, line, minimum::minimum(w), w.pending_list().list.count),
         b'b' => three(rt, line, minimum::balances(w)),
         b's' => sound(rt, w),
         b'f' => faulty(rt, w),
@@ -158,7 +151,7 @@ fn passes(rt: &impl Print, line: Line, desk: &Desk) -> io::Result<bool> {
         b'h' => amount(rt, line, w.held().amount),
         b'u' => amount(rt, line, w.utxo_list().list.count as u64),
         b'e' => amount(rt, line, w.expected_list().list.count as u64),
-        b'p' => amount(rt, line, pending.list.count as u64),
+        b'p' => amount(rt, line, w.pending_list().list.count as u64),
         _ => amount(rt, line, 0),
     }
 }

@@ -14,13 +14,11 @@ const MOST_NAMED: usize = 33;
 // How many wallets can be kept.
 const PLACES: usize = 8;
 
-// A wallet, what the last step answered and moved on the wallet before it, and the wallets that are kept.
+// What came of the last step, the wallet before it, and the wallets that are kept.
 #[derive(Clone, Copy)]
 pub(crate) struct Desk {
-    pub wallet: Wallet,
+    pub last: Step,
     pub before: Wallet,
-    pub answer: u32,
-    pub movement: i64,
     kept: [Wallet; PLACES],
 }
 
@@ -49,13 +47,11 @@ fn print_strange(rt: &impl Print, line: Line) -> io::Result<()> {
 
 impl Desk {
     pub fn start() -> Desk {
-        let w = Wallet::open(&[]).wallet;
+        let last = Wallet::open(&[]);
         Desk {
-            wallet: w,
-            before: w,
-            answer: 0,
-            movement: 0,
-            kept: [w; PLACES],
+            last,
+            before: last.wallet,
+            kept: [last.wallet; PLACES],
         }
     }
 
@@ -66,31 +62,27 @@ impl Desk {
 
     // A wallet that no step has touched.
     fn hold(&mut self, w: Wallet) {
-        self.take(
-            w,
-            Step {
-                wallet: w,
-                answer: 0,
-                movement: 0,
-            },
-        );
+        self.before = w;
+        self.last = Step {
+            wallet: w,
+            answer: 0,
+            movement: 0,
+        };
     }
 
-    fn take(&mut self, before: Wallet, step: Step) {
-        self.before = before;
-        self.wallet = step.wallet;
-        self.answer = step.answer;
-        self.movement = step.movement;
+    fn take(&mut self, step: Step) {
+        self.before = self.last.wallet;
+        self.last = step;
     }
 
     // What a line says, by the letter that its word begins with.
     pub fn follow(&mut self, rt: &impl Print, line: Line) -> io::Result<()> {
-        let w = self.wallet;
+        let w = self.last.wallet;
         match line.letter(0) {
-            b'o' => self.take(w, opened(line)),
-            b'b' => self.take(w, w.block(block_below(line))),
-            b'p' => self.take(w, w.pay(transaction_in(line, 0))),
-            b'r' => self.take(w, w.roll_back()),
+            b'o' => self.take(opened(line)),
+            b'b' => self.take(w.block(block_below(line))),
+            b'p' => self.take(w.pay(transaction_in(line, 0))),
+            b'r' => self.take(w.roll_back()),
             b'k' => self.kept[place_in(line)] = w,
             b'f' => self.hold(self.there(line)),
             b'w' => self.hold(by_hand(w, line)),

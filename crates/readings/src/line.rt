@@ -20,7 +20,7 @@ fn value(digits: &[u8]) -> u64 {
     })
 }
 
-// How many numbers a text has.
+// How many numbers a text has. The chain stands in `numbers` too, since a function cannot hand out one with closures.
 fn numbers_in(text: &[u8]) -> usize {
     text.split(|b| !b.is_ascii_digit())
         .filter(|digits| !digits.is_empty())
@@ -51,7 +51,7 @@ impl<'a> Line<'a> {
         }
     }
 
-    // The numbers from a place on, up to the label; 0 for each that is missing.
+    // The numbers from a place on, up to the label, and 0 for each that is missing. The first number has place 0.
     pub fn numbers<const N: usize>(self, place: usize) -> [u64; N] {
         let mut numbers = [0; N];
         let digits = self
