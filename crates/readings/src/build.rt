@@ -42,6 +42,19 @@ pub(crate) fn put<T: Copy>(places: &mut [T], place: u64, item: T) {
     }
 }
 
+// The inputs, or the outputs, from one number of a line to another; those behind the eighth are left out.
+fn add_inputs(t: &mut Transaction, line: Line, first: usize, end: usize) {
+    for place in (first..end).step_by(2).take(MOST_INPUTS) {
+        push(&mut t.inputs, &mut t.takes, reference_in(line, place));
+    }
+}
+
+fn add_outputs(t: &mut Transaction, line: Line, first: usize, end: usize) {
+    for place in (first..end).step_by(3).take(MOST_OUTPUTS) {
+        push(&mut t.outputs, &mut t.makes, output_in(line, place));
+    }
+}
+
 // The transaction whose number is the first, or a later one, of a line. Behind a semicolon stand other counts.
 pub(crate) fn transaction_in(line: Line, first: usize) -> Transaction
     requires { first ≤ 2 }
@@ -53,12 +66,8 @@ pub(crate) fn transaction_in(line: Line, first: usize) -> Transaction
     t.number = Number {
         serial: line.number(first),
     };
-    for place in (first + 1..arrow).step_by(2).take(MOST_INPUTS) {
-        push(&mut t.inputs, &mut t.takes, reference_in(line, place));
-    }
-    for place in (arrow..end).step_by(3).take(MOST_OUTPUTS) {
-        push(&mut t.outputs, &mut t.makes, output_in(line, place));
-    }
+    add_inputs(&mut t, line, first + 1, arrow);
+    add_outputs(&mut t, line, arrow, end);
     if let Some(place) = semicolon {
         let [takes, makes] = line.numbers::<2>(place);
         t.takes = takes as usize;

@@ -7,12 +7,7 @@ use rules::{Entry, MOST_PAYMENTS};
 use std::array;
 use wallet::Wallet;
 
-// The own address of a line; 0 where it is too large.
-fn address_in(line: Line) -> u32 {
-    u32::try_from(line.number(1)).unwrap_or(0)
-}
-
-// An entry with its marks.
+// An entry with its marks; 0 where a number is too large.
 fn held_in(line: Line) -> Held {
     let [address, amount, utxo, expected] = line.numbers::<4>(3);
     let entry = Entry {
@@ -53,7 +48,7 @@ pub(crate) fn by_hand(w: Wallet, line: Line) -> Wallet {
     let mut pool = w.pool;
     let n = line.number(0);
     match line.letter(5) {
-        b'a' => put(&mut pool.own, n, address_in(line)),
+        b'a' => put(&mut pool.own, n, u32::try_from(line.number(1)).unwrap_or(0)),
         b'e' => put(&mut pool.entries, n, held_in(line)),
         b't' => put(&mut pool.payments, n, payment_in(line)),
         b'l' => {
