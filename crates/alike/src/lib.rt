@@ -21,11 +21,11 @@ pub fn same_wallet(w: Wallet, v: Wallet) -> bool
 pub fn no_entries(list: Made) -> bool
     ensures { result ≡ no_entries list }
 {
-    list.count == 0 && list.items.iter().all(|e| *e == Entry::default())
+    list.items.iter().all(|e| *e == Entry::default()) && list.count == 0
 }
 
 pub fn no_payments(list: Block) -> bool
     ensures { result ≡ no_payments list }
 {
-    list.count == 0 && list.transactions.iter().all(|t| chain::no_transaction(*t))
+    list.transactions.iter().all(|t| chain::no_transaction(*t)) && list.count == 0
 }

@@ -138,10 +138,7 @@ fn same_value(a: &Entry, b: &Entry) -> bool
 fn agrees_at(output: &Entry, held: &[Held], place: usize) -> bool
     ensures { result ≡ agrees_found output.now (slice_get held.now place) }
 {
-    match held.get(place) {
-        None => true,
-        Some(h) => same_value(output, &h.entry),
-    }
+    held.get(place).is_none_or(|h| same_value(output, &h.entry))
 }
 
 // Whether each output agrees with the first entry of its reference, where the pool has one.

@@ -6,9 +6,18 @@ use Rattle.rules.specs.Chain.{same_number}
 use Rattle.alike.specs.Alike.{no_entry}
 use Rattle.alike.proofs.no_entries.Goals as goal
 
-pub returns-then-list-eq0 : goal.returns-then-list-eq0
+pub returns-then-all : goal.returns-then-all
 unfolding same_number
-returns-then-list-eq0 c =
+returns-then-all c =
+    let empty =
+    all_from_yields_List no_entry _ _ c.all.result c.all.ensures.ran
+    (YieldsList-from_slice c.args.list.items cc) (λ x b q k. search (rules, tests))
+    in
+    grind (arith, empty)
+
+pub returns-else-all : goal.returns-else-all
+unfolding same_number
+returns-else-all c =
     let empty =
     all_from_yields_List no_entry _ _ c.all.result c.all.ensures.ran
     (YieldsList-from_slice c.args.list.items cc) (λ x b q k. search (rules, tests))

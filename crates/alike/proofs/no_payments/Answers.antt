@@ -5,8 +5,8 @@ use Rattle.std.proofs.lemmas.Iterator.Search.{all_from_yields_List}
 use Rattle.chain.specs.View.{no_transaction}
 use Rattle.alike.proofs.no_payments.Goals as goal
 
-pub returns-then-list-eq0 : goal.returns-then-list-eq0
-returns-then-list-eq0 c =
+pub returns-then-all : goal.returns-then-all
+returns-then-all c =
     let empty =
     all_from_yields_List no_transaction _ _ c.all.result c.all.ensures.ran
     (YieldsList-from_slice c.args.list.transactions cc) (λ x b q k. search (rules, tests))
