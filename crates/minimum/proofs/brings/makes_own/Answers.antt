@@ -13,7 +13,7 @@ use borrow.Author.Rules.{rules}
 use Rattle.minimum.proofs.brings.makes_own.Goals as goal
 
 pub loop-i-init : goal.loop-i-init
-loop-i-init c = (search rules, reach_fits c.same_number-same.result _ _ c.args.t.makes 8 c.reach-end.ensures c.capped-makes.ensures, search (rules, mapped_length), refl)
+loop-i-init c = (search rules, reach_fits c.same_number-same.result _ _ c.args.t.makes 8 c.reach-end.ensures c.min-makes.ensures, search (rules, mapped_length), refl)
 
 pub loop-i-preserved : goal.loop-i-preserved
 loop-i-preserved c =
@@ -28,4 +28,4 @@ pub returns : goal.returns
 returns c =
     let places : length c.args.t.outputs ≡ 8 = search rules in
     let done : c.loop-i.i ≡ c.reach-end.result = search rules in
-    maker_found c.args.own.now c.args.reference c.args.t _ _ c.reach-end.result _ places c.same_number-same.ensures c.capped-makes.ensures c.reach-end.ensures (c.loop-i.invariant.3 ∙ ap (λ (k : ℕ). any (own_index c.args.own.now c.args.reference) (take k c.args.t.outputs)) done)
+    maker_found c.args.own.now c.args.reference c.args.t _ _ c.reach-end.result _ places c.same_number-same.ensures c.min-makes.ensures c.reach-end.ensures (c.loop-i.invariant.3 ∙ ap (λ (k : ℕ). any (own_index c.args.own.now c.args.reference) (take k c.args.t.outputs)) done)

@@ -27,7 +27,7 @@ loop-i-preserved c =
 pub returns : goal.returns
 returns c =
     let places : length c.args.taking.inputs ≡ 8 = search rules in
-    let done = take_done c.args.taking.inputs c.args.taking.count 8 _ c.loop-i.i places c.capped-end.ensures (search rules) (search rules) in
+    let done = take_done c.args.taking.inputs c.args.taking.count 8 _ c.loop-i.i places c.min-end.ensures (search rules) (search rules) in
     let hard = c.loop-i.invariant.3 ∙ ap (any (hard_input c.args.number)) done in
     let soft = c.loop-i.invariant.4 ∙ ap (any (soft_input c.args.number)) done in
     λ t. record { hard = hard t; soft = soft t }

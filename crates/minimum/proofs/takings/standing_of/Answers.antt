@@ -24,8 +24,8 @@ loop-i-preserved c = (
 
 pub returns : goal.returns
 returns c =
-    let long : length c.args.refs.refs ≡ most_references = search (rules, mapped_length) in
+    let long : length c.args.refs.items ≡ most_references = search (rules, mapped_length) in
     standing_done c.args.refs c.args.made c.made_refs-those.result c.sought.result c.loop-i.invariant.3
     c.made_refs-those.ensures c.sought.ensures
-    c.capped-end.result c.loop-i.i c.loop-i.here c.loop-i.amounts long c.capped-end.ensures (search rules) (search rules)
+    c.min-end.result c.loop-i.i c.loop-i.here c.loop-i.amounts long c.min-end.ensures (search rules) (search rules)
     c.loop-i.invariant.4 c.loop-i.invariant.5
