@@ -1,29 +1,23 @@
 // The minimum's tables settled: an expected entry that exactly one payment can bring goes into what that payment adds.
 ghost use Rattle.std.specs.Prelude.{not, ◌≡◌, ◌≤◌, length};
+ghost use Rattle.fixed.specs.Filled.{filled_of};
 ghost use Rattle.minimum.specs.Inputs.{no_bring};
 ghost use Rattle.minimum.specs.Settling.{SettleFit};
 ghost use Rattle.rules.specs.Sizes.{most_references};
-ghost use Rattle.sets.specs.Fill.{filled};
 ghost use Rattle.sets.specs.Sets.{keep};
 ghost use Rattle.tables.specs.Tables.{is_single, settled_rows};
 
-use crate::brings;
-use rules::{MOST_PAYMENTS, MOST_REFERENCES};
+use crate::brings::{self, Brings};
+use crate::rows::Rows;
+use fixed::Filled;
+use rules::MOST_PAYMENTS;
 use tables::{Bring, Row};
 
-// Settled tables: the rows, and the brings that are left, the first `count`.
+// Settled tables: the rows, and the brings that are left.
 #[derive(Clone, Copy)]
 pub(crate) struct Settled {
-    pub rows: [Row; MOST_PAYMENTS],
-    pub brings: [Bring; MOST_REFERENCES],
-    pub count: usize,
-}
-
-// The brings that are left.
-#[derive(Clone, Copy)]
-struct Kept {
-    brings: [Bring; MOST_REFERENCES],
-    count: usize,
+    pub rows: Rows,
+    pub brings: Brings,
 }
 
 // Whether exactly one payment can bring the entry.
@@ -48,34 +42,29 @@ fn settled_rows(mut rows: [Row; MOST_PAYMENTS], brings: &[Bring]) -> [Row; MOST_
 }
 
 // The brings that are not single.
-fn kept_brings(brings: &[Bring]) -> Kept
+fn kept_brings(brings: &[Bring]) -> Brings
     requires { length brings.now ≤ most_references }
-    ensures { result ≡ record { brings = filled most_references no_bring (keep (λ b. not (is_single b)) brings.now); count = length (keep (λ b. not (is_single b)) brings.now) } }
+    ensures { result ≡ filled_of most_references no_bring (keep (λ b. not (is_single b)) brings.now) }
 {
-    let mut left = [brings::no_bring(); MOST_REFERENCES];
-    let mut count = 0;
+    let mut left = Brings::none(brings::no_bring());
     for bring in brings {
         if !is_single(bring) {
-            left[count] = *bring;
-            count += 1;
+            left.push(*bring);
         }
     }
-    Kept {
-        brings: left,
-        count,
-    }
+    left
 }
 
 // Tables settled: rows raised, single brings left out.
-pub(crate) fn settle(rows: [Row; MOST_PAYMENTS], brings: &[Bring]) -> Settled
-    requires { SettleFit rows brings.now }
-    ensures { result ≡ record { rows = settled_rows brings.now rows; brings = filled most_references no_bring (keep (λ b. not (is_single b)) brings.now); count = length (keep (λ b. not (is_single b)) brings.now) } }
+pub(crate) fn settle(rows: Rows, brings: &[Bring]) -> Settled
+    requires { SettleFit rows.items brings.now }
+    ensures { result ≡ record { rows = record { items = settled_rows brings.now rows.items; count = rows.count }; brings = filled_of most_references no_bring (keep (λ b. not (is_single b)) brings.now) } }
 {
-    let rows = settled_rows(rows, brings);
-    let Kept { brings, count } = kept_brings(brings);
     Settled {
-        rows,
-        brings,
-        count,
+        rows: Filled {
+            items: settled_rows(rows.items, brings),
+            count: rows.count,
+        },
+        brings: kept_brings(brings),
     }
 }
