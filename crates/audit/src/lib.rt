@@ -44,7 +44,7 @@ fn held_good(held: &Held, limit: usize, own: &[u32]) -> bool
         && held.utxo & held.expected == 0
 }
 
-// Whether a place of the pool holds no payment.
+// Whether a place of the pool holds no payment. A derived default's contract has no equation for the arrays in it.
 fn no_payment(payment: &Payment) -> bool
     ensures { result ≡ no_payment payment.now }
 {
@@ -90,7 +90,7 @@ fn payments_ascend(payments: &[Payment]) -> bool
     payments.is_sorted_by(|a, b| a.transaction.number < b.transaction.number)
 }
 
-// The payments: nothing behind them, ascending by number, and good.
+// The payments: nothing behind them, ascending by number, and good. All three tests differ from those of the entries.
 fn payments_good(payments: &[Payment], unused: &[Payment], limit: usize) -> bool
     ensures { result ≡ (all no_payment unused.now && ascending before_payment payments.now && all (payment_test limit) payments.now) }
 {

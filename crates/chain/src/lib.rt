@@ -13,7 +13,8 @@ use rules::{
     Output, Reference,
 };
 
-// A transaction takes the first `takes` inputs and makes the first `makes` outputs; the other places are zero.
+// A transaction takes the first `takes` inputs and makes the first `makes` outputs; the other places are zero. Arrays with
+// counts, as the definitions `view_transaction` and `laid_out` name them; the slices below are what code reads.
 #[derive(Clone, Copy, Debug, Default, PartialEq, Eq)]
 pub struct Transaction {
     pub number: Number,
@@ -40,7 +41,7 @@ impl Transaction {
     }
 }
 
-// A block has the first `count` transactions; the other places are zero.
+// A block has the first `count` transactions; the other places are zero: see `view_block` and `laid_out_block`.
 #[derive(Clone, Copy, Debug, Default, PartialEq, Eq)]
 pub struct Block {
     pub transactions: [Transaction; MOST_TRANSACTIONS],

@@ -13,7 +13,7 @@ use crate::transactions::{TransactionRead, read_transaction};
 use chain::{Block, Transaction, zero_transaction};
 use rules::{MOST_OWN, MOST_TRANSACTIONS};
 
-// The kinds of rows.
+// The kinds of rows, by document 01's numbers: a row's kind decides which body rule applies, any other number is refused.
 pub(crate) const OWN_KIND: u8 = 1;
 
 pub(crate) const BLOCK_KIND: u8 = 2;
@@ -22,7 +22,7 @@ pub(crate) const PAY_KIND: u8 = 3;
 
 pub(crate) const BACK_KIND: u8 = 4;
 
-// Own addresses: the first `count` places; the other places are zero.
+// Own addresses: the first `count` places; the other places are zero. `own_struct` and the promises of `read_own` name both.
 #[derive(Clone, Copy)]
 pub struct Own {
     pub addresses: [u32; MOST_OWN],
@@ -33,7 +33,7 @@ pub type OwnRead = Read<Own>;
 
 pub type BlockRead = Read<Block>;
 
-// What a body is, or a fault's place.
+// What a body is, or a fault's place: by document 01 the list, block or payment stands beside it in a struct.
 #[derive(Clone, Copy, Debug, PartialEq, Eq)]
 pub enum Body {
     Own,

@@ -32,7 +32,7 @@ pub fn made_refs(made: Made) -> Refs
     refs
 }
 
-// The references of the pool's entries.
+// The references of the pool's entries. A loop over a closure that reads the reference would be no shorter.
 pub fn held_refs(w: &Pool) -> Refs
     ensures { result ≡ refs_of (map (λ h. h.entry.reference) (entries_of w.now)) }
 {

@@ -19,7 +19,8 @@ pub const MOST_SHEET: usize = 24_112;
 // A text that every sheet fits.
 type Text = Filled<u8, MOST_SHEET>;
 
-// A line of the sheet: the event's row from 1, its kind, the answer, the three balances after it, the movement.
+// A line of the sheet: the event's row from 1, its kind, the answer, the three balances after it, the movement. Kind and
+// answer are document 01's numbers, as the definition `line_text` writes them.
 #[derive(Clone, Copy, Debug, PartialEq, Eq)]
 pub struct Line {
     pub row: usize,
@@ -31,7 +32,7 @@ pub struct Line {
     pub movement: i64,
 }
 
-// What `sheet_of` hands back: 0 and how many bytes it wrote; 10 and 0 for a buffer that is too short.
+// What `sheet_of` hands back: 0 and how many bytes it wrote; 10 and 0 for a buffer that is too short (`written_of`).
 #[derive(Clone, Copy, Debug, PartialEq, Eq)]
 pub struct Written {
     pub answer: u32,

@@ -25,7 +25,7 @@ fn put_signed(text: &mut Text, m: i64)
     put_number(text, m.unsigned_abs(), b'\n');
 }
 
-// A kind's word and a space.
+// A kind's word and a space; the kind is document 01's number.
 fn put_kind(text: &mut Text, kind: u8)
     ensures { text.new ≡ with_items text.old (kind_word kind ++ 32 ∷ []) }
 {

@@ -80,17 +80,14 @@ fn brings_soft(number: Number, taking: &Taking) -> bool
 fn has_own(own: &[u32], reference: Reference, outputs: &[Output]) -> bool
     ensures { result ≡ any (own_index own.now reference) outputs.now }
 {
-    outputs
-        .iter()
-        .any(|o| reference.index == o.index && flat::is_own(own, o.address))
+    outputs.iter().any(|o| reference.index == o.index && flat::is_own(own, o.address))
 }
 
 // Whether a payment has the reference among its own outputs. Its number is asked first.
 fn makes_own(own: &[u32], reference: Reference, t: &Transaction) -> bool
     ensures { result ≡ is_maker own.now reference t.now }
 {
-    chain::same_number(reference.number, t.number)
-        && has_own(own, reference, t.outputs())
+    chain::same_number(reference.number, t.number) && has_own(own, reference, t.outputs())
 }
 
 // The bring of an expected entry.

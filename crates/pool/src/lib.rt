@@ -50,7 +50,8 @@ impl Payment {
 }
 
 // The first `owns` own addresses, the first `used` entries by reference, the first `paying` payments by number, and how
-// many states lie below the present one. The other places are zero.
+// many states lie below the present one. The other places are zero. Arrays with counts, as the definition `good` names them:
+// a wallet is damaged by each of them alone. The slices below are what code reads.
 #[derive(Clone, Copy, Debug, PartialEq, Eq)]
 pub struct Pool {
     pub own: [u32; MOST_OWN],

@@ -34,7 +34,8 @@ pub struct Wallet {
     pub pool: Pool,
 }
 
-// What a step hands back: the wallet, the paper's answer, and how far the available balance moved.
+// What a step hands back: the wallet, the paper's answer, and how far the available balance moved, together and by value,
+// as document 01 asks; so the answer is a number, 0 or that of the refusal.
 #[derive(Clone, Copy, Debug, PartialEq, Eq)]
 pub struct Step {
     pub wallet: Wallet,
@@ -42,7 +43,8 @@ pub struct Step {
     pub movement: i64,
 }
 
-// What a query hands back: an amount or a count, or a list, with the paper's answer.
+// What a query hands back: an amount or a count, or a list, with the paper's answer: a refused one gives its number and
+// zeros (document 01; `asked`, `listed` and `pending_listed` name the fields).
 #[derive(Clone, Copy, Debug, PartialEq, Eq)]
 pub struct Amount {
     pub answer: u32,
