@@ -36,9 +36,7 @@ fn pushed(word: u32, mark: bool) -> u32
     requires { word < 2 ^ most_payments }
     ensures { result ≡ bit mark + 2 * word }
 {
-    let twice = word * 2;
-    let low = mark as u32;
-    low + twice
+    u32::from(mark) + 2 * word
 }
 
 // The word of the payments of which a test holds: the first has the lowest mark.
@@ -80,17 +78,14 @@ fn brings_soft(number: Number, taking: &Taking) -> bool
 fn has_own(own: &[u32], reference: Reference, outputs: &[Output]) -> bool
     ensures { result ≡ any (own_index own.now reference) outputs.now }
 {
-    outputs
-        .iter()
-        .any(|o| reference.index == o.index && flat::is_own(own, o.address))
+    outputs.iter().any(|o| reference.index == o.index && flat::is_own(own, o.address))
 }
 
 // Whether a payment has the reference among its own outputs. Its number is asked first.
 fn makes_own(own: &[u32], reference: Reference, t: &Transaction) -> bool
     ensures { result ≡ is_maker own.now reference t.now }
 {
-    chain::same_number(reference.number, t.number)
-        && has_own(own, reference, t.outputs())
+    chain::same_number(reference.number, t.number) && has_own(own, reference, t.outputs())
 }
 
 // The bring of an expected entry.

@@ -1,4 +1,4 @@
-use Rattle.std.proofs.Common.{◌∙◌, List, ℕ, ◌≤◌, [], length, get_or, take, ap, map, refl, sym, subst, arith}
+use Rattle.std.proofs.Common.{◌∙◌, List, [], length, get_or, take, ap, map, sym, arith}
 use Rattle.std.proofs.lemmas.List.{length-map}
 use mathlib.Core.List.{map-map}
 use Rattle.sets.specs.Fill.{gather-map}
@@ -53,7 +53,7 @@ loop-payment-preserved c =
     in (
       c.split_at.ensures.back
           ∙ parted_back inputs_of f c.transactions-payment-items.result.now c.loop-payment.payment-index past_end c.loop-payment-test.true _
-            (ap length c.inputs.ensures.inputs) c.loop-payment.rest.now c.loop-payment.invariant.0,
+          (ap length c.inputs.ensures.inputs) c.loop-payment.rest.now c.loop-payment.invariant.0,
       map_pushed _ _ (λ (t : Transaction). taking_of c.args.own.now s (view_transaction t)) c.transactions-payment-items.result.now
           c.loop-payment.payment-index past_end _ _ c.loop-payment.invariant.1 c.loop-payment-test.true c.transactions-payment-items.ensures.most
           (c.push.ensures
