@@ -36,9 +36,7 @@ fn pushed(word: u32, mark: bool) -> u32
     requires { word < 2 ^ most_payments }
     ensures { result ≡ bit mark + 2 * word }
 {
-    let twice = word * 2;
-    let low = mark as u32;
-    low + twice
+    u32::from(mark) + 2 * word
 }
 
 // The word of the payments of which a test holds: the first has the lowest mark.

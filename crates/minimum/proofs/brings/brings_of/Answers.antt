@@ -1,13 +1,12 @@
-use Rattle.std.proofs.Common.{List, [], ◌∙◌, ap, map, arith, subst, sym, ℕ, ◌≤◌, length, length-take}
+use Rattle.std.proofs.Common.{List, [], ◌∙◌, ap, map, subst, sym, ◌≤◌, length}
 use Rattle.rules.specs.Sizes.{most_payments, most_references}
-use Rattle.chain.specs.declared.Transaction.{Transaction}
 use Rattle.chain.specs.View.{view_transaction}
 use Rattle.tables.specs.declared.Bring.{Bring}
 use Rattle.tables.specs.Tables.{bring_of}
 use Rattle.fixed.specs.Filled.{filled_of, with_item}
 use Rattle.fixed.specs.Laws.{all_taken, map_pushed}
 use Rattle.minimum.specs.declared.takings.Taking.{Taking}
-use Rattle.minimum.specs.Inputs.{no_bring, state_of}
+use Rattle.minimum.specs.Inputs.{state_of}
 use Rattle.minimum.specs.Bringing.{bring_told, takings_many}
 use Rattle.minimum.proofs.brings.brings_of.Goals as goal
 

@@ -1,4 +1,4 @@
-use Rattle.std.proofs.Common.{ℕ, List, ◌∙◌, ap, get_or, map, refl}
+use Rattle.std.proofs.Common.{List, ◌∙◌, ap, get_or, map, refl}
 use Rattle.std.specs.List.{slice_get}
 use Rattle.std.specs.Option.{option_map}
 use Rattle.rules.specs.declared.Entry.{Entry}

@@ -4,7 +4,7 @@ use Rattle.fixed.specs.Filled.{filled_of, with_item}
 use Rattle.fixed.specs.Laws.{all_taken, map_pushed}
 use Rattle.rules.specs.Sizes.{most_references}
 use Rattle.minimum.specs.declared.takings.Input.{Input}
-use Rattle.minimum.specs.Inputs.{input_of, no_input, state_of}
+use Rattle.minimum.specs.Inputs.{input_of, state_of}
 use Rattle.minimum.specs.Takings.{all_spent, input_read}
 use Rattle.minimum.proofs.takings.inputs_of.Goals as goal
 

@@ -1,4 +1,4 @@
-use Rattle.std.proofs.Common.{[], arith, ◌∙◌, ap, refl}
+use Rattle.std.proofs.Common.{[], arith, ◌∙◌, ap}
 use Rattle.rules.specs.Sizes.{most_inputs}
 use Rattle.fixed.specs.Filled.{filled_of}
 use Rattle.fixed.specs.Laws.{extend_more}

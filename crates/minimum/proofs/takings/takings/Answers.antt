@@ -1,4 +1,4 @@
-use Rattle.std.proofs.Common.{◌∙◌, List, ℕ, ◌≤◌, [], length, get_or, take, ap, map, refl, sym, subst, arith}
+use Rattle.std.proofs.Common.{◌∙◌, List, [], length, get_or, take, ap, map, sym, arith}
 use Rattle.std.proofs.lemmas.List.{length-map}
 use mathlib.Core.List.{map-map}
 use Rattle.sets.specs.Fill.{gather-map}
