@@ -9,10 +9,10 @@ ghost use Rattle.sets.specs.Sets.{any};
 ghost use Rattle.sets.specs.Words.{bit, word_of};
 ghost use Rattle.tables.specs.Tables.{bring_of};
 
+use crate::Sets;
 use crate::takings::Taking;
-use chain::{Block, Transaction};
+use chain::Transaction;
 use fixed::Filled;
-use flat::Made;
 use rules::{Entry, MOST_REFERENCES, Number, Output, Reference};
 use tables::Bring;
 
@@ -105,20 +105,14 @@ fn bring_of(own: &[u32], entry: &Entry, payments: &[Transaction], taken: &[Takin
 }
 
 // The brings of all expected entries. The UTxO is told by the takings already.
-pub(crate) fn brings_of(
-    own: &[u32],
-    utxo: Made,
-    expected: Made,
-    pending: Block,
-    taken: &[Taking],
-) -> Brings
-    requires fit { Fit utxo expected pending }
-    requires taken_value { taken.now ≡ takings_of own.now (state_of utxo expected pending) }
-    ensures { result ≡ filled_of most_references no_bring (map (bring_of own.now (state_of utxo expected pending)) (made_in expected)) }
+pub(crate) fn brings_of(sets: &Sets, taken: &[Taking]) -> Brings
+    requires fit { Fit sets.now.utxo sets.now.expected sets.now.pending }
+    requires taken_value { taken.now ≡ takings_of sets.now.own.now (state_of sets.now.utxo sets.now.expected sets.now.pending) }
+    ensures { result ≡ filled_of most_references no_bring (map (bring_of sets.now.own.now (state_of sets.now.utxo sets.now.expected sets.now.pending)) (made_in sets.now.expected)) }
 {
     let mut brings = Brings::none(no_bring());
-    for entry in expected.as_slice() {
-        brings.push(bring_of(own, entry, pending.transactions(), taken));
+    for entry in sets.expected.as_slice() {
+        brings.push(bring_of(sets.own, entry, sets.pending.transactions(), taken));
     }
     brings
 }

@@ -10,10 +10,10 @@ ghost use Rattle.minimum.specs.Standing.{stood};
 ghost use Rattle.rules.specs.Chain.{spent};
 ghost use Rattle.rules.specs.Sizes.{most_inputs, most_payments, most_references};
 
-use chain::Block;
+use crate::Sets;
 use fixed::Filled;
 use flat::{Made, Refs};
-use rules::{Entry, MOST_INPUTS, MOST_PAYMENTS, MOST_REFERENCES, Number, Reference};
+use rules::{MOST_INPUTS, MOST_PAYMENTS, MOST_REFERENCES, Number, Reference};
 
 // An input: its reference, its worth (0 where it stands nowhere), and whether it stands in the UTxO, in expected, and
 // among the outputs of pending payments.
@@ -57,10 +57,10 @@ type Amounts = Filled<Option<u64>, MOST_REFERENCES>;
 type Inputs = Filled<Input, MOST_REFERENCES>;
 
 // The amount at a place, if there is an entry.
-fn amount_at(entries: &[Entry], place: usize) -> Option<u64>
-    ensures { result ≡ option_map (λ e. e.amount) (slice_get entries.now place) }
+fn amount_at(made: &Made, place: usize) -> Option<u64>
+    ensures { result ≡ option_map (λ e. e.amount) (slice_get (made_in made.now) place) }
 {
-    entries.get(place).map(|entry| entry.amount)
+    made.as_slice().get(place).map(|entry| entry.amount)
 }
 
 // One search for all of the references.
@@ -69,7 +69,7 @@ fn amounts_of(refs: Refs, made: Made) -> Amounts
 {
     let mut amounts = Amounts::none(None);
     for place in flat::sought(refs, flat::made_refs(made)).as_slice() {
-        amounts.push(amount_at(made.as_slice(), *place));
+        amounts.push(amount_at(&made, *place));
     }
     amounts
 }
@@ -94,14 +94,14 @@ fn input_of(
 }
 
 // The inputs of all pending payments, one payment's after another's.
-fn inputs_of(own: &[u32], utxo: Made, expected: Made, pending: Block) -> Inputs
-    ensures { result ≡ filled_of most_references no_input (map (input_of own.now (state_of utxo expected pending)) (spent (view_block pending))) }
+fn inputs_of(sets: &Sets) -> Inputs
+    ensures { result ≡ filled_of most_references no_input (map (input_of sets.now.own.now (state_of sets.now.utxo sets.now.expected sets.now.pending)) (spent (view_block sets.now.pending))) }
 {
-    let slots = flat::spent_of(pending);
-    let made = flat::made_of(pending);
-    let in_utxo = amounts_of(slots, utxo);
-    let in_expected = amounts_of(slots, expected);
-    let in_own = amounts_of(slots, flat::own_of(made, own));
+    let slots = flat::spent_of(sets.pending);
+    let made = flat::made_of(sets.pending);
+    let in_utxo = amounts_of(slots, sets.utxo);
+    let in_expected = amounts_of(slots, sets.expected);
+    let in_own = amounts_of(slots, flat::own_of(made, sets.own));
     let is_made = flat::found(slots, flat::made_refs(made));
     let mut inputs = Inputs::none(no_input());
     for (i, reference) in slots.as_slice().iter().enumerate() {
@@ -130,13 +130,13 @@ fn taking_of(number: Number, inputs: &[Input]) -> Taking
 }
 
 // The inputs of each pending payment.
-pub(crate) fn takings(own: &[u32], utxo: Made, expected: Made, pending: Block) -> Takings
-    ensures { result ≡ filled_of most_payments no_taking (takings_of own.now (state_of utxo expected pending)) }
+pub(crate) fn takings(sets: &Sets) -> Takings
+    ensures { result ≡ filled_of most_payments no_taking (takings_of sets.now.own.now (state_of sets.now.utxo sets.now.expected sets.now.pending)) }
 {
-    let inputs = inputs_of(own, utxo, expected, pending);
+    let inputs = inputs_of(sets);
     let mut rest = inputs.as_slice();
     let mut takings = Takings::none(taking_of(chain::zero_number(), &[]));
-    for payment in pending.transactions() {
+    for payment in sets.pending.transactions() {
         let (these, others) = rest.split_at(payment.inputs().len());
         takings.push(taking_of(payment.number, these));
         rest = others;

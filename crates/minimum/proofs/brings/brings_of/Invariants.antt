@@ -7,4 +7,4 @@ use Rattle.minimum.proofs.brings.brings_of.Given as goal
 
 abbrev pub invariant-loop-entry : goal.invariant-loop-entry
 invariant-loop-entry l =
-    l.brings ≡ filled_of most_references no_bring (map (bring_of l.own (state_of l.fn.utxo l.fn.expected l.pending)) (take l.entry-index l.entry-items))
+    l.brings ≡ filled_of most_references no_bring (map (bring_of l.fn.sets.own.now (state_of l.fn.sets.utxo l.fn.sets.expected l.fn.sets.pending)) (take l.entry-index l.entry-items))

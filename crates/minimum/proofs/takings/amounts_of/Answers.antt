@@ -1,4 +1,4 @@
-use Rattle.std.proofs.Common.{List, ◌∙◌, ap, get_or, map, refl}
+use Rattle.std.proofs.Common.{◌∙◌, ap, map, refl}
 use Rattle.std.specs.List.{slice_get}
 use Rattle.std.specs.Option.{option_map}
 use Rattle.rules.specs.declared.Entry.{Entry}
@@ -13,10 +13,7 @@ pub loop-place-preserved : goal.loop-place-preserved
 loop-place-preserved c =
     map_pushed _ _ (λ k. option_map (λ (e : Entry). e.amount) (slice_get (made_in c.args.made) k)) c.as_slice-place-items.result.now c.loop-place.place-index 0 _ _
     c.loop-place.invariant c.loop-place-test.true c.as_slice-place-items.ensures.most
-    (c.push.ensures
-    ∙ ap (with_item c.loop-place.amounts)
-    (c.amount_at.ensures
-    ∙ ap (λ (l : List Entry). option_map (λ (e : Entry). e.amount) (slice_get l (get_or c.as_slice-place-items.result.now c.loop-place.place-index 0))) c.as_slice.ensures.items))
+    (c.push.ensures ∙ ap (with_item c.loop-place.amounts) c.amount_at.ensures)
 
 pub returns : goal.returns
 returns c =

@@ -7,4 +7,4 @@ use Rattle.minimum.proofs.takings.inputs_of.Given as goal
 abbrev pub invariant-loop-i : goal.invariant-loop-i
 invariant-loop-i l =
     l.inputs
-    ≡ filled_of most_references no_input (map (input_of l.fn.own (state_of l.fn.utxo l.fn.expected l.fn.pending)) (take l.i l.reference-items))
+    ≡ filled_of most_references no_input (map (input_of l.fn.sets.own.now (state_of l.fn.sets.utxo l.fn.sets.expected l.fn.sets.pending)) (take l.i l.reference-items))

@@ -20,23 +20,23 @@ use Rattle.minimum.proofs.takings.takings.Goals as goal
 
 pub loop-payment-init : goal.loop-payment-init
 loop-payment-init c =
-    let f = input_of c.args.own.now (state_of c.args.utxo c.args.expected c.args.pending) in (
+    let f = input_of c.args.sets.now.own.now (state_of c.args.sets.now.utxo c.args.sets.now.expected c.args.sets.now.pending) in (
       c.as_slice-rest.ensures.items
           ∙ ap items_in c.inputs_of-inputs.ensures
-          ∙ items-filled most_references no_input (map f (spent (view_block c.args.pending)))
-          ∙ ap (map f) (gather-map (λ (t : Chain.Transaction). t.inputs) view_transaction (take c.args.pending.count c.args.pending.transactions))
+          ∙ items-filled most_references no_input (map f (spent (view_block c.args.sets.now.pending)))
+          ∙ ap (map f) (gather-map (λ (t : Chain.Transaction). t.inputs) view_transaction (take c.args.sets.now.pending.count c.args.sets.now.pending.transactions))
           ∙ ap (λ (l : List Transaction). map f (gather inputs_of l)) (sym c.transactions-payment-items.ensures.transactions),
       c.none-takings.ensures ∙ ap (λ (k : Taking). filled_of most_payments k []) (c.taking_of.ensures ∙ ap (λ (n : Number). record { number = n; inputs = filled_of most_inputs no_input [] }) c.zero_number.ensures),
     )
 
 pub split_at-requires : goal.split_at-requires
 split_at-requires c =
-    parted_room inputs_of (input_of c.args.own.now (state_of c.args.utxo c.args.expected c.args.pending)) c.transactions-payment-items.result.now
+    parted_room inputs_of (input_of c.args.sets.now.own.now (state_of c.args.sets.now.utxo c.args.sets.now.expected c.args.sets.now.pending)) c.transactions-payment-items.result.now
     c.loop-payment.payment-index past_end c.loop-payment-test.true _ (ap length c.inputs.ensures.inputs) c.loop-payment.rest.now c.loop-payment.invariant.0
 
 pub taking_of-requires-in-loop-payment : goal.taking_of-requires-in-loop-payment
 taking_of-requires-in-loop-payment c =
-    let f = input_of c.args.own.now (state_of c.args.utxo c.args.expected c.args.pending) in
+    let f = input_of c.args.sets.now.own.now (state_of c.args.sets.now.utxo c.args.sets.now.expected c.args.sets.now.pending) in
     let front =
     parted_front inputs_of f c.transactions-payment-items.result.now c.loop-payment.payment-index past_end c.loop-payment-test.true _
     (ap length c.inputs.ensures.inputs) c.loop-payment.rest.now c.loop-payment.invariant.0
@@ -45,8 +45,8 @@ taking_of-requires-in-loop-payment c =
 
 pub loop-payment-preserved : goal.loop-payment-preserved
 loop-payment-preserved c =
-    let s = state_of c.args.utxo c.args.expected c.args.pending in
-    let f = input_of c.args.own.now s in
+    let s = state_of c.args.sets.now.utxo c.args.sets.now.expected c.args.sets.now.pending in
+    let f = input_of c.args.sets.now.own.now s in
     let front =
     parted_front inputs_of f c.transactions-payment-items.result.now c.loop-payment.payment-index past_end c.loop-payment-test.true _
     (ap length c.inputs.ensures.inputs) c.loop-payment.rest.now c.loop-payment.invariant.0
@@ -54,7 +54,7 @@ loop-payment-preserved c =
       c.split_at.ensures.back
           ∙ parted_back inputs_of f c.transactions-payment-items.result.now c.loop-payment.payment-index past_end c.loop-payment-test.true _
           (ap length c.inputs.ensures.inputs) c.loop-payment.rest.now c.loop-payment.invariant.0,
-      map_pushed _ _ (λ (t : Transaction). taking_of c.args.own.now s (view_transaction t)) c.transactions-payment-items.result.now
+      map_pushed _ _ (λ (t : Transaction). taking_of c.args.sets.now.own.now s (view_transaction t)) c.transactions-payment-items.result.now
           c.loop-payment.payment-index past_end _ _ c.loop-payment.invariant.1 c.loop-payment-test.true c.transactions-payment-items.ensures.most
           (c.push.ensures
           ∙ ap (with_item c.loop-payment.takings)
@@ -64,7 +64,7 @@ loop-payment-preserved c =
 
 pub returns : goal.returns
 returns c =
-    let s = state_of c.args.utxo c.args.expected c.args.pending in
-    all_taken _ _ (map (λ (t : Transaction). taking_of c.args.own.now s (view_transaction t))) _ _ c.loop-payment.payment-index _ c.loop-payment.invariant.1
+    let s = state_of c.args.sets.now.utxo c.args.sets.now.expected c.args.sets.now.pending in
+    all_taken _ _ (map (λ (t : Transaction). taking_of c.args.sets.now.own.now s (view_transaction t))) _ _ c.loop-payment.payment-index _ c.loop-payment.invariant.1
     c.loop-payment-test.false c.transactions-payment-items.ensures.transactions
-    ∙ ap (filled_of most_payments no_taking) (sym (map-map (taking_of c.args.own.now s) view_transaction (take c.args.pending.count c.args.pending.transactions)))
+    ∙ ap (filled_of most_payments no_taking) (sym (map-map (taking_of c.args.sets.now.own.now s) view_transaction (take c.args.sets.now.pending.count c.args.sets.now.pending.transactions)))

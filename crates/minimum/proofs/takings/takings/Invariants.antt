@@ -11,7 +11,7 @@ use Rattle.minimum.proofs.takings.takings.Given as goal
 
 abbrev pub invariant-loop-payment : goal.invariant-loop-payment
 invariant-loop-payment l =
-    (l.rest ≡ map (input_of l.fn.own (state_of l.fn.utxo l.fn.expected l.fn.pending)) (gather inputs_of (drop l.payment-index l.payment-items)))
+    (l.rest ≡ map (input_of l.fn.sets.own.now (state_of l.fn.sets.utxo l.fn.sets.expected l.fn.sets.pending)) (gather inputs_of (drop l.payment-index l.payment-items)))
     × (l.takings
     ≡ filled_of most_payments no_taking
-    (map (λ (t : Transaction). taking_of l.fn.own (state_of l.fn.utxo l.fn.expected l.fn.pending) (view_transaction t)) (take l.payment-index l.payment-items)))
+    (map (λ (t : Transaction). taking_of l.fn.sets.own.now (state_of l.fn.sets.utxo l.fn.sets.expected l.fn.sets.pending) (view_transaction t)) (take l.payment-index l.payment-items)))
