@@ -7,7 +7,7 @@ use Rattle.chain.specs.declared.Block.{Block}
 use Rattle.chain.specs.View.{no_transaction, same_struct}
 use Rattle.pool.specs.declared.Held.{Held}
 use Rattle.pool.specs.declared.Payment.{Payment}
-use Rattle.flat.specs.declared.Made.{Made}
+use Rattle.flat.specs.Flat.{Made}
 use Rattle.flat.specs.Flat.{zero_entry}
 use Rattle.wallet.specs.declared.Wallet.{Wallet}
 
@@ -38,7 +38,7 @@ abbrev pub no_entry : Entry → Bool
 no_entry e = alike_entry e zero_entry
 
 abbrev pub no_entries : Made → Bool
-no_entries m = all no_entry m.entries && eqb m.count 0
+no_entries m = all no_entry m.items && eqb m.count 0
 
 abbrev pub no_payments : Block → Bool
 no_payments b = all no_transaction b.transactions && eqb b.count 0

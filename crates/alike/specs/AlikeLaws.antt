@@ -1,7 +1,8 @@
 -- The tests tell no more and no less: a wallet is alike itself, and alike wallets are equal; a list that holds nothing is the
 -- list of nothing.
-use Rattle.std.specs.Prelude.{ℕ, ◌≡◌, Bool, ◌&&◌, List, [], ◌∷◌, T, eqb, length, replicate}
-use Rattle.std.proofs.Common.{subst, eqb→eq}
+use Rattle.std.specs.Prelude.{ℕ, ◌≡◌, refl, Bool, ◌&&◌, List, [], ◌∷◌, T, eqb, length, replicate}
+use Rattle.std.specs.Cmp.Lexicographic.{pointwise}
+use Rattle.std.proofs.Common.{subst, eqb→eq, arith}
 use Rattle.std.proofs.Math.Dec.{eqb_refl}
 use Rattle.sets.specs.Sets.{all, same_list}
 use Rattle.sets.specs.Tests.{and_left, and_right, and_both}
@@ -9,15 +10,16 @@ use Rattle.sets.specs.Laws.{same_list_refl, same_list_eq}
 use Rattle.sets.specs.Walks.{every_facts, every_holds, all_one}
 use Rattle.rules.specs.declared.Entry.{Entry}
 use Rattle.rules.specs.Sizes.{most_references, most_transactions}
-use Rattle.rules.specs.Chain.{same_reference}
+use Rattle.rules.specs.declared.Output.{Output}
+use Rattle.rules.specs.declared.Reference.{Reference}
+use Rattle.rules.specs.Chain.{same_number, same_output, same_reference}
 use Rattle.rules.specs.ChainLaws.{same_reference_refl, same_reference_eq}
-use Rattle.chain.specs.declared.Transaction.{Transaction}
 use Rattle.chain.specs.declared.Block.{Block}
 use Rattle.chain.specs.View.{zero_transaction, no_transaction, same_struct}
 use Rattle.chain.specs.ViewLaws.{no_transaction_zero, same_struct_refl, same_struct_eq}
 use Rattle.pool.specs.declared.Held.{Held}
 use Rattle.pool.specs.declared.Payment.{Payment}
-use Rattle.flat.specs.declared.Made.{Made}
+use Rattle.flat.specs.Flat.{Made}
 use Rattle.flat.specs.Flat.{zero_entry, made_of, block_of}
 use Rattle.wallet.specs.declared.Wallet.{Wallet}
 use Rattle.alike.specs.Alike.{alike, alike_entry, alike_held, alike_payment, no_entry, no_entries, no_payments}
@@ -128,15 +130,15 @@ alike_refl w =
 
 -- arrays of their lengths that hold nothing are those of the empty list
 
-pub no_entries_none : (m : Made) → length m.entries ≡ most_references → T (no_entries m) → m ≡ made_of []
+pub no_entries_none : (m : Made) → length m.items ≡ most_references → T (no_entries m) → m ≡ made_of []
 no_entries_none m n t =
-    let empty = all no_entry m.entries in
-    let entries : m.entries ≡ replicate most_references zero_entry =
-    subst (λ (k : ℕ). m.entries ≡ replicate k zero_entry) n
-    (all_one no_entry zero_entry (λ (e : Entry). alike_entry_eq e zero_entry) m.entries (and_left empty (eqb m.count 0) t))
+    let empty = all no_entry m.items in
+    let entries : m.items ≡ replicate most_references zero_entry =
+    subst (λ (k : ℕ). m.items ≡ replicate k zero_entry) n
+    (all_one no_entry zero_entry (λ (e : Entry). alike_entry_eq e zero_entry) m.items (and_left empty (eqb m.count 0) t))
     in
     let count = eqb→eq m.count 0 (and_right empty (eqb m.count 0) t) in
-    λ i. record { entries = entries i; count = count i }
+    λ i. record { items = entries i; count = count i }
 
 pub no_payments_none : (b : Block) → length b.transactions ≡ most_transactions → T (no_payments b) → b ≡ block_of []
 no_payments_none b n t =
@@ -147,3 +149,41 @@ no_payments_none b n t =
     in
     let count = eqb→eq b.count 0 (and_right empty (eqb b.count 0) t) in
     λ i. record { transactions = transactions i; count = count i }
+
+-- ── `==` of the structs, place by place, is the test of the definitions
+
+-- lists compared place by place, as `==` compares arrays, are compared as lists are
+same_places : {A : Type 0} (e same : A → A → Bool) → ((x y : A) → e x y ≡ same x y) → (l m : List A) → pointwise e l m ≡ same_list same l m
+same_places e same one [] [] = refl
+same_places e same one [] (y ∷ m) = refl
+same_places e same one (x ∷ l) [] = refl
+same_places e same one (x ∷ l) (y ∷ m) = rw (one x y, same_places e same one l m) refl
+
+-- of two payments
+pub same_payments :
+    {e : Reference → Reference → Bool} {f : Output → Output → Bool} (a b : Payment) →
+    ((x y : Reference) → e x y ≡ same_reference x y) → ((x y : Output) → f x y ≡ same_output x y) →
+    ((eqb a.transaction.number.serial b.transaction.number.serial
+    && (pointwise e a.transaction.inputs b.transaction.inputs
+    && (eqb a.transaction.takes b.transaction.takes
+    && (pointwise f a.transaction.outputs b.transaction.outputs && eqb a.transaction.makes b.transaction.makes))))
+    && eqb a.pending b.pending)
+    ≡ alike_payment a b
+unfolding same_number same_struct
+same_payments {e = e} {f} a b p q =
+    let inputs = same_places e same_reference p a.transaction.inputs b.transaction.inputs in
+    let outputs = same_places f same_output q a.transaction.outputs b.transaction.outputs in
+    grind (arith, inputs, outputs)
+
+-- of two pools
+pub same_pools :
+    {r : Bool} {e : ℕ → ℕ → Bool} {f : Held → Held → Bool} {g : Payment → Payment → Bool} (w v : Wallet) →
+    r ≡ (pointwise e w.pool.own v.pool.own && (eqb w.pool.owns v.pool.owns && (eqb w.pool.below v.pool.below && (pointwise f w.pool.entries v.pool.entries && (eqb w.pool.used v.pool.used && (pointwise g w.pool.payments v.pool.payments && eqb w.pool.paying v.pool.paying)))))) →
+    ((x y : ℕ) → e x y ≡ eqb x y) → ((x y : Held) → f x y ≡ alike_held x y) → ((x y : Payment) → g x y ≡ alike_payment x y) →
+    r ≡ alike w v
+unfolding alike
+same_pools {e = e} {f} {g} w v h p q o =
+    let own = same_places e eqb p w.pool.own v.pool.own in
+    let entries = same_places f alike_held q w.pool.entries v.pool.entries in
+    let payments = same_places g alike_payment o w.pool.payments v.pool.payments in
+    grind (arith, h, own, entries, payments)

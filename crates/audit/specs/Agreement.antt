@@ -1,81 +1,58 @@
 -- The place at which an output's reference is found among the pool's entries tells whether the output agrees with them.
-use Rattle.std.specs.Prelude.{ℕ, suc, ◌%◌, ◌≤◌, ◌<◌, min, ◌≡◌, refl, ◌⊎◌, Bool, true, false, not, cond, ◌||◌, List, [], ◌∷◌, map, T, eqb, length, get_or, take}
-use Rattle.std.proofs.Common.{sym, ap, ap₂, ◌∙◌, inl, inr, arith, length-take, get_or-take}
-use Rattle.std.proofs.Math.Dec.{eqb-zero-suc, eqb-suc-suc}
-use Rattle.std.proofs.lemmas.List.{length-map}
-use Rattle.sets.specs.Tests.{T-cases, is_true, neqb→ne}
+use Rattle.std.specs.Prelude.{ℕ, suc, ◌≡◌, refl, Bool, true, false, cond, ◌&&◌, List, [], ◌∷◌, Option, None, Some, map}
+use Rattle.std.specs.List.{slice_get, zip}
+use Rattle.std.proofs.Common.{ap, ap₂, ◌∙◌}
+use mathlib.Core.List.{map-map}
+use Rattle.sets.specs.Sets.{all}
 use Rattle.rules.specs.declared.Reference.{Reference}
 use Rattle.rules.specs.declared.Entry.{Entry}
 use Rattle.rules.specs.Sizes.{most_references}
 use Rattle.rules.specs.Chain.{same_entry, same_value}
 use Rattle.pool.specs.declared.Held.{Held}
-use Rattle.flat.specs.declared.Refs.{Refs}
-use Rattle.flat.specs.declared.Made.{Made}
-use Rattle.flat.specs.declared.Places.{Places}
-use Rattle.flat.specs.Flat.{refs_of, places_of, refs_in, made_in, seek}
-use Rattle.flat.specs.SeekLaws.{seek_most}
-use Rattle.flat.specs.Told.{refs_back, count_of, place_of}
+use Rattle.fixed.specs.Filled.{items_in}
+use Rattle.fixed.specs.Laws.{items-filled}
+use Rattle.flat.specs.Flat.{Places, Refs, places_of, refs_in, refs_of, seek}
+use Rattle.flat.specs.Told.{refs_back}
 use Rattle.audit.specs.Audit.{agrees_first}
 
 -- the references of some entries of the pool
 abbrev pub held_refs : List Held → List Reference
 held_refs es = map (λ h. h.entry.reference) es
 
--- an output agrees if its reference is not found, or if it has the value of the entry found
-agrees_found :
-    (o : Entry) (es : List Held) (d : Held) →
-    agrees_first o es ≡ (eqb (seek o.reference (held_refs es)) (length es) || same_value o (get_or es (seek o.reference (held_refs es)) d).entry)
-agrees_found o [] d = refl
-agrees_found o (h ∷ l) d =
-    let r = agrees_found o l d in
-    let s : ℕ = seek o.reference (held_refs l) in
+-- an output agrees with the entry that was found, if one was
+abbrev pub agrees_found : Entry → Option Held → Bool
+agrees_found o None = true
+agrees_found o (Some h) = same_value o h.entry
+
+-- the place of its reference finds the first entry of it
+found_first : (o : Entry) (es : List Held) → agrees_found o (slice_get es (seek o.reference (held_refs es))) ≡ agrees_first o es
+found_first o [] = refl
+found_first o (h ∷ l) =
     elim (same_entry o h.entry) as
     (λ b.
-    cond b (same_value o h.entry) (agrees_first o l)
-    ≡ (eqb (cond b 0 (suc s)) (suc (length l)) || same_value o (get_or (h ∷ l) (cond b 0 (suc s)) d).entry)) [
-      | true ↦ ap (λ (b : Bool). b || same_value o h.entry) (sym (eqb-zero-suc (length l)))
-      | false ↦ r ∙ ap (λ (b : Bool). b || same_value o (get_or l s d).entry) (sym (eqb-suc-suc s (length l)))
+    agrees_found o (slice_get (h ∷ l) (cond b 0 (suc (seek o.reference (held_refs l)))))
+    ≡ cond b (same_value o h.entry) (agrees_first o l)) [
+      | true ↦ refl
+      | false ↦ found_first o l
     ]
 
--- the same told by the place in the whole array, with the place past the used ones brought back to the first
-pub agrees_at :
-    (o : Entry) (entries : List Held) (used place n : ℕ) (d : Held) (here : Bool) → length entries ≡ most_references →
-    place ≡ seek o.reference (held_refs (take used entries)) → n ≡ length (take used entries) →
-    here ≡ same_value o (get_or entries (place % most_references) d).entry →
-    (eqb place n || here) ≡ agrees_first o (take used entries)
-agrees_at o entries used place n d here size p q u =
-    ap₂ (λ (a b : ℕ). eqb a b || here) p q ∙ by_place (T-cases (eqb s (length es)))
-  where
-    es : List Held
-    es = take used entries
+-- so each output, beside the place of its reference, tells whether it agrees
+pub all_found_first :
+    (es : List Held) (l : List Entry) →
+    all (λ (p : Entry × ℕ). agrees_found p.0 (slice_get es p.1)) (zip l (map (λ o. seek o.reference (held_refs es)) l))
+    ≡ all (λ o. agrees_first o es) l
+all_found_first es [] = refl
+all_found_first es (o ∷ l) = ap₂ (λ (a b : Bool). a && b) (found_first o es) (all_found_first es l)
 
-    s : ℕ
-    s = seek o.reference (held_refs es)
-
-    value : Bool
-    value = same_value o (get_or es s d).entry
-
-    by_place : T (eqb s (length es)) ⊎ T (not (eqb s (length es))) → (eqb s (length es) || here) ≡ agrees_first o es
-    by_place (inl t) =
-        let e = is_true (eqb s (length es)) t in
-        ap (λ (b : Bool). b || here) e ∙ sym (ap (λ (b : Bool). b || value) e) ∙ sym (agrees_found o es d)
-    by_place (inr t) =
-        let differ : s ≡ length es → ⊥ = neqb→ne s (length es) t in
-        let most : s ≤ length es = omega (arith, seek_most o.reference (held_refs es), length-map es (λ (h : Held). h.entry.reference)) in
-        let inside : s < length es = omega arith in
-        let first : s < used = omega (arith, length-take used entries) in
-        let low : place % most_references ≡ s = omega (arith, length-take used entries) in
-        let found : get_or entries (place % most_references) d ≡ get_or es s d =
-        ap (λ (k : ℕ). get_or entries k d) low ∙ sym (get_or-take used entries s d first)
-        in
-        ap (λ (b : Bool). eqb s (length es) || b) (u ∙ ap (λ (h : Held). same_value o h.entry) found) ∙ sym (agrees_found o es d)
-
--- the place that a search of all outputs gives for one of them
-pub output_place :
-    (m : Made) (held : List Reference) (a b : Refs) (places : Places) (i : ℕ) (d : Entry) →
-    a ≡ refs_of (map (λ e. e.reference) (made_in m)) → b ≡ refs_of held → places ≡ places_of (map (λ x. seek x (refs_in b)) (refs_in a)) →
-    length m.entries ≡ most_references → i < min m.count most_references →
-    get_or places.at i 0 ≡ seek (get_or m.entries i d).reference held
-output_place m held a b places i d ea eb ep size h =
-    place_of (λ (e : Entry). e.reference) m.entries m.count a ea d b places held (ap refs_in eb ∙ refs_back held) ep i
-    (omega (arith, count_of (λ (e : Entry). e.reference) m.entries m.count a ea))
+-- the places that a search of all outputs gives
+pub places_sought :
+    (l : List Entry) (held : List Reference) (a b : Refs) (at : Places) →
+    a ≡ refs_of (map (λ e. e.reference) l) → b ≡ refs_of held → at ≡ places_of (map (λ x. seek x (refs_in b)) (refs_in a)) →
+    items_in at ≡ map (λ o. seek o.reference held) l
+places_sought l held a b at ea eb e =
+    let those = ap refs_in eb ∙ refs_back held in
+    let these = ap refs_in ea ∙ refs_back (map (λ (o : Entry). o.reference) l) in
+    ap items_in e
+    ∙ items-filled most_references 0 (map (λ (x : Reference). seek x (refs_in b)) (refs_in a))
+    ∙ (λ i. map (λ (x : Reference). seek x (those i)) (these i))
+    ∙ map-map (λ (x : Reference). seek x held) (λ (o : Entry). o.reference) l

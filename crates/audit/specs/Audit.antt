@@ -28,11 +28,10 @@ held_test limit own h =
 abbrev pub payment_test : ℕ → Payment → Bool
 payment_test limit p = ltb p.pending limit && not (eqb p.pending 0) && good_transaction p.transaction
 
--- the own list and the entries
-unfoldable pub entries_part : Pool → Bool
-entries_part w =
-    every
-    (leb w.owns most_own
+-- the own list and the entries: all that is asked of them
+abbrev pub entries_list : Pool → List Bool
+entries_list w =
+    leb w.owns most_own
     ∷ leb w.used most_references
     ∷ leb w.below (most_states - 1)
     ∷ shaped_own (take w.owns w.own)
@@ -40,18 +39,23 @@ entries_part w =
     ∷ all no_held (drop w.used w.entries)
     ∷ ascending before_held (entries_of w)
     ∷ all (held_test (2 ^ suc w.below) (take w.owns w.own)) (entries_of w)
-    ∷ [])
+    ∷ []
 
--- the payments
-unfoldable pub payments_part : Pool → Bool
-payments_part w =
-    every
-    (leb w.paying most_payments
+unfoldable pub entries_part : Pool → Bool
+entries_part w = every (entries_list w)
+
+-- the payments: all that is asked of them
+abbrev pub payments_list : Pool → List Bool
+payments_list w =
+    leb w.paying most_payments
     ∷ leb w.below (most_states - 1)
     ∷ all no_payment (drop w.paying w.payments)
     ∷ ascending before_payment (payments_of w)
     ∷ all (payment_test (2 ^ suc w.below)) (payments_of w)
-    ∷ [])
+    ∷ []
+
+unfoldable pub payments_part : Pool → Bool
+payments_part w = every (payments_list w)
 
 -- an output agrees with the first entry of its reference, if there is one
 abbrev pub agrees_first : Entry → List Held → Bool

@@ -28,8 +28,7 @@ use Rattle.pool.specs.View.{entries_of, payments_of}
 use Rattle.pool.specs.Good.{before_held, held_fits, payment_fits, laid_out, good, pool_sound}
 use Rattle.pool.specs.LayoutLaws.{laid_out_facts, facts_laid_out}
 use Rattle.pool.specs.SoundLaws.{sound_tests, sound_good}
-use Rattle.audit.specs.Audit.{held_test, payment_test, entries_part, payments_part, agrees_first}
-use Rattle.audit.specs.Checks.{entries_list, payments_list}
+use Rattle.audit.specs.Audit.{held_test, payment_test, entries_list, entries_part, payments_list, payments_part, agrees_first}
 
 -- ── outputs and entries
 

@@ -1,4 +1,5 @@
 pub mod Audit
-pub mod Checks
 pub mod AuditLaws
+pub mod Rising
+pub mod Apart
 pub mod Agreement

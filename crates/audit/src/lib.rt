@@ -1,309 +1,162 @@
 // Whether a wallet struct is sound: laid out as the pool asks, and sound by the rules.
 #![tactic(auto)]
 
-ghost use Rattle.std.specs.Prelude.{◌≡◌, suc, ◌+◌, ◌^◌, ◌≤◌, eqb, drop, take};
+ghost use Rattle.std.specs.Prelude.{◌≡◌, suc, ◌+◌, ◌^◌, ◌≤◌, ◌&&◌, eqb};
+ghost use Rattle.std.specs.List.{slice_get};
+ghost use Rattle.audit.specs.Agreement.{agrees_found};
 ghost use Rattle.audit.specs.Audit.{agrees_first, entries_part, held_test, payment_test, payments_part};
 ghost use Rattle.flat.specs.Flat.{made_in};
 ghost use Rattle.pool.specs.Good.{before_held, before_payment, good, no_held, no_payment};
-ghost use Rattle.pool.specs.Marks.{apart_marks};
-ghost use Rattle.rules.specs.Sizes.{most_own, most_payments, most_references, most_states};
-ghost use Rattle.rules.specs.Chain.{same_value};
+ghost use Rattle.pool.specs.View.{entries_of};
+ghost use Rattle.rules.specs.Chain.{same_value, shaped_own};
+ghost use Rattle.rules.specs.Sizes.{most_states};
 ghost use Rattle.sets.specs.Sets.{all, ascending};
 
 use flat::Made;
 use pool::{Held, Payment, Pool};
 use rules::{Entry, LARGEST_AMOUNT, MOST_OWN, MOST_PAYMENTS, MOST_REFERENCES, MOST_STATES};
 
-// Nothing stands behind the own addresses.
-fn own_ends(own: [u32; MOST_OWN], owns: usize) -> bool
-    requires { owns ≤ most_own }
-    ensures { result ≡ all (λ a. eqb a 0) (drop owns own) }
-{
-    let mut ok = true;
-    let mut i = owns;
-    while i < MOST_OWN {
-        let here = own[i] == 0;
-        ok = ok & here;
-        i += 1;
-    }
-    ok
-}
-
-// Whether a place of the pool holds no entry.
-fn no_held(held: Held) -> bool
-    ensures { result ≡ no_held held }
-{
-    let entry = held.entry;
-    let reference = chain::no_reference(entry.reference);
-    let address = entry.address == 0;
-    let amount = entry.amount == 0;
-    let utxo = held.utxo == 0;
-    let expected = held.expected == 0;
-    reference & address & amount & utxo & expected
-}
-
-// Nothing stands behind the entries.
-fn entries_end(entries: [Held; MOST_REFERENCES], used: usize) -> bool
-    requires { used ≤ most_references }
-    ensures { result ≡ all no_held (drop used entries) }
-{
-    let mut ok = true;
-    let mut i = used;
-    while i < MOST_REFERENCES {
-        let here = no_held(entries[i]);
-        ok = ok & here;
-        i += 1;
-    }
-    ok
-}
-
-// The entries ascend by reference.
-fn entries_ascend(entries: [Held; MOST_REFERENCES], used: usize) -> bool
-    requires { used ≤ most_references }
-    ensures { result ≡ ascending before_held (take used entries) }
-{
-    let mut ok = true;
-    let mut i = 1;
-    while i < used {
-        let last = i - 1;
-        let before = entries[last];
-        let held = entries[i];
-        let first = before.entry;
-        let second = held.entry;
-        let here = chain::before_reference(first.reference, second.reference);
-        ok = ok & here;
-        i += 1;
-    }
-    ok
-}
-
-// No mark stands in both words.
-fn apart(a: u8, b: u8) -> bool
-    ensures { result ≡ apart_marks most_states a b }
-{
-    let mut ok = true;
-    let mut x = a;
-    let mut y = b;
-    let mut i = 0;
-    while i < MOST_STATES {
-        let in_x = x % 2 == 1;
-        let in_y = y % 2 == 1;
-        ok = ok & !(in_x & in_y);
-        x = x / 2;
-        y = y / 2;
-        i += 1;
-    }
-    ok
-}
-
-// Whether an entry of the pool is good.
-fn held_good(held: Held, limit: usize, own: &[u32]) -> bool
-    ensures { result ≡ held_test limit own.now held }
-{
-    let entry = held.entry;
-    let utxo = (held.utxo as usize) < limit;
-    let expected = (held.expected as usize) < limit;
-    let no_utxo = held.utxo == 0;
-    let no_expected = held.expected == 0;
-    let amount = entry.amount <= LARGEST_AMOUNT;
-    let is_own = flat::is_own(own, entry.address);
-    let is_apart = apart(held.utxo, held.expected);
-    utxo & expected & !(no_utxo & no_expected) & amount & is_own & is_apart
-}
-
-// All entries of the pool are good.
-fn entries_good(entries: [Held; MOST_REFERENCES], used: usize, limit: usize, own: &[u32]) -> bool
-    requires { used ≤ most_references }
-    ensures { result ≡ all (held_test limit own.now) (take used entries) }
-{
-    let mut ok = true;
-    let mut i = 0;
-    while i < used {
-        let here = held_good(entries[i], limit, own);
-        ok = ok & here;
-        i += 1;
-    }
-    ok
-}
-
-// Whether a place of the pool holds no payment.
-fn no_payment(payment: Payment) -> bool
-    ensures { result ≡ no_payment payment }
-{
-    let transaction = payment.transaction;
-    let none = chain::no_transaction(transaction);
-    let pending = payment.pending == 0;
-    none & pending
-}
-
-// Nothing stands behind the payments.
-fn payments_end(payments: [Payment; MOST_PAYMENTS], paying: usize) -> bool
-    requires { paying ≤ most_payments }
-    ensures { result ≡ all no_payment (drop paying payments) }
-{
-    let mut ok = true;
-    let mut i = paying;
-    while i < MOST_PAYMENTS {
-        let here = no_payment(payments[i]);
-        ok = ok & here;
-        i += 1;
-    }
-    ok
-}
-
-// The payments ascend by number.
-fn payments_ascend(payments: [Payment; MOST_PAYMENTS], paying: usize) -> bool
-    requires { paying ≤ most_payments }
-    ensures { result ≡ ascending before_payment (take paying payments) }
-{
-    let mut ok = true;
-    let mut i = 1;
-    while i < paying {
-        let last = i - 1;
-        let before = payments[last];
-        let payment = payments[i];
-        let first = before.transaction;
-        let second = payment.transaction;
-        let here = chain::before_number(first.number, second.number);
-        ok = ok & here;
-        i += 1;
-    }
-    ok
-}
-
-// Whether a payment of the pool is good.
-fn payment_good(payment: Payment, limit: usize) -> bool
-    ensures { result ≡ payment_test limit payment }
-{
-    let transaction = payment.transaction;
-    let fits = (payment.pending as usize) < limit;
-    let none = payment.pending == 0;
-    let good = chain::good_transaction(transaction);
-    fits & !none & good
-}
-
-// All payments of the pool are good.
-fn payments_good(payments: [Payment; MOST_PAYMENTS], paying: usize, limit: usize) -> bool
-    requires { paying ≤ most_payments }
-    ensures { result ≡ all (payment_test limit) (take paying payments) }
-{
-    let mut ok = true;
-    let mut i = 0;
-    while i < paying {
-        let here = payment_good(payments[i], limit);
-        ok = ok & here;
-        i += 1;
-    }
-    ok
-}
-
-// Two entries under one reference: the same address and amount.
-fn same_value(a: Entry, b: Entry) -> bool
-    ensures { result ≡ same_value a b }
-{
-    let address = a.address == b.address;
-    let amount = a.amount == b.amount;
-    address & amount
-}
-
-// Whether each output agrees with the first entry of its reference, where the pool has one.
-pub fn outputs_agree(made: Made, entries: [Held; MOST_REFERENCES], used: usize) -> bool
-    ensures { result ≡ all (λ o. agrees_first o (take used entries)) (made_in made) }
-{
-    let refs = flat::held_refs(entries, used);
-    let at = flat::sought(flat::made_refs(made), refs).at;
-    let outputs = made.entries;
-    let end = flat::capped(made.count, MOST_REFERENCES);
-    let stop = refs.count;
-    let mut ok = true;
-    let mut i = 0;
-    while i < end {
-        let place = at[i];
-        let held = entries[place % MOST_REFERENCES];
-        let none = place == stop;
-        let here = same_value(outputs[i], held.entry);
-        ok = ok & (none | here);
-        i += 1;
-    }
-    ok
-}
-
 // 2 to the number of held states: no mark word reaches it.
 fn limit_of(below: usize) -> usize
     requires { below + 1 ≤ most_states }
     ensures { result ≡ 2 ^ suc below }
 {
-    let mut limit: usize = 2;
-    let mut i: usize = 0;
-    while i < below {
-        limit = limit * 2;
-        i += 1;
-    }
-    limit
+    1 << (below + 1)
+}
+
+// Whether a place of the pool holds no entry.
+#[tactic(auto, unfolding(rules::specs::Chain::same_number))]
+fn no_held(held: &Held) -> bool
+    ensures { result ≡ no_held held.now }
+{
+    *held == Held::default()
+}
+
+// Whether an entry of the pool is good.
+fn held_good(held: &Held, limit: usize, own: &[u32]) -> bool
+    ensures { result ≡ held_test limit own.now held.now }
+{
+    (held.utxo as usize) < limit
+        && (held.expected as usize) < limit
+        && !(held.utxo == 0 && held.expected == 0)
+        && held.entry.amount <= LARGEST_AMOUNT
+        && flat::is_own(own, held.entry.address)
+        && held.utxo & held.expected == 0
+}
+
+// Whether a place of the pool holds no payment. A derived default's contract has no equation for the arrays in it.
+fn no_payment(payment: &Payment) -> bool
+    ensures { result ≡ no_payment payment.now }
+{
+    chain::no_transaction(payment.transaction) && payment.pending == 0
+}
+
+// Whether a payment of the pool is good.
+fn payment_good(payment: &Payment, limit: usize) -> bool
+    ensures { result ≡ payment_test limit payment.now }
+{
+    (payment.pending as usize) < limit
+        && payment.pending != 0
+        && chain::good_transaction(payment.transaction)
+}
+
+// The own list: shaped, and nothing behind it.
+fn own_good(own: &[u32], unused: &[u32]) -> bool
+    ensures { result ≡ (shaped_own own.now && all (λ a. eqb a 0) unused.now) }
+{
+    chain::good_own(own) && unused.iter().all(|a| *a == 0)
+}
+
+// The entries ascend by reference.
+fn entries_ascend(entries: &[Held]) -> bool
+    ensures { result ≡ ascending before_held entries.now }
+{
+    entries.is_sorted_by(|a, b| a.entry.reference < b.entry.reference)
+}
+
+// The entries: nothing behind them, ascending by reference, and good.
+fn entries_good(entries: &[Held], unused: &[Held], limit: usize, own: &[u32]) -> bool
+    ensures { result ≡ (all no_held unused.now && ascending before_held entries.now && all (held_test limit own.now) entries.now) }
+{
+    unused.iter().all(|h| no_held(h))
+        && entries_ascend(entries)
+        && entries.iter().all(|h| held_good(h, limit, own))
+}
+
+// The payments ascend by number.
+fn payments_ascend(payments: &[Payment]) -> bool
+    ensures { result ≡ ascending before_payment payments.now }
+{
+    payments.is_sorted_by(|a, b| a.transaction.number < b.transaction.number)
+}
+
+// The payments: nothing behind them, ascending by number, and good. All three tests differ from those of the entries.
+fn payments_good(payments: &[Payment], unused: &[Payment], limit: usize) -> bool
+    ensures { result ≡ (all no_payment unused.now && ascending before_payment payments.now && all (payment_test limit) payments.now) }
+{
+    unused.iter().all(|p| no_payment(p))
+        && payments_ascend(payments)
+        && payments.iter().all(|p| payment_good(p, limit))
 }
 
 // The own list and the entries: laid out and good.
-fn entries_sound(w: Pool) -> bool
-    ensures { result ≡ entries_part w }
+#[tactic(auto, unfolding(crate::specs::Audit::entries_part))]
+fn entries_sound(w: &Pool) -> bool
+    ensures { result ≡ entries_part w.now }
 {
-    let owns = w.owns;
-    let used = w.used;
-    let below = w.below;
-    if MOST_OWN < owns {
+    if MOST_OWN < w.owns || MOST_REFERENCES < w.used || MOST_STATES <= w.below {
         return false;
     }
-    if MOST_REFERENCES < used {
-        return false;
-    }
-    if MOST_STATES <= below {
-        return false;
-    }
-    let own = w.own;
-    let entries = w.entries;
-    let limit = limit_of(below);
-    let list = &own[..owns];
-    let own_good = chain::good_own(list);
-    let good = entries_good(entries, used, limit, list);
-    let own_stops = own_ends(own, owns);
-    let stops = entries_end(entries, used);
-    let rise = entries_ascend(entries, used);
-    own_good & own_stops & stops & rise & good
+    own_good(w.own(), &w.own[w.owns..])
+        && entries_good(
+            w.entries(),
+            &w.entries[w.used..],
+            limit_of(w.below),
+            w.own(),
+        )
 }
 
 // The payments: laid out and good.
-fn payments_sound(w: Pool) -> bool
-    ensures { result ≡ payments_part w }
+#[tactic(auto, unfolding(crate::specs::Audit::payments_part))]
+fn payments_sound(w: &Pool) -> bool
+    ensures { result ≡ payments_part w.now }
 {
-    let paying = w.paying;
-    if MOST_PAYMENTS < paying {
+    if MOST_PAYMENTS < w.paying || MOST_STATES <= w.below {
         return false;
     }
-    if MOST_STATES <= w.below {
-        return false;
-    }
-    let payments = w.payments;
-    let limit = limit_of(w.below);
-    let stops = payments_end(payments, paying);
-    let rise = payments_ascend(payments, paying);
-    let good = payments_good(payments, paying, limit);
-    stops & rise & good
+    payments_good(w.payments(), &w.payments[w.paying..], limit_of(w.below))
+}
+
+// Two entries under one reference: the same address and amount.
+fn same_value(a: &Entry, b: &Entry) -> bool
+    ensures { result ≡ same_value a.now b.now }
+{
+    a.address == b.address && a.amount == b.amount
+}
+
+// Whether an output agrees with the entry in a place, where there is one.
+fn agrees_at(output: &Entry, held: &[Held], place: usize) -> bool
+    ensures { result ≡ agrees_found output.now (slice_get held.now place) }
+{
+    held.get(place).is_none_or(|h| same_value(output, &h.entry))
+}
+
+// Whether each output agrees with the first entry of its reference, where the pool has one.
+pub fn outputs_agree(made: Made, w: &Pool) -> bool
+    ensures { result ≡ all (λ o. agrees_first o (entries_of w.now)) (made_in made) }
+{
+    let at = flat::sought(flat::made_refs(made), flat::held_refs(w));
+    let outputs = made.as_slice().iter();
+    outputs
+        .zip(at.as_slice())
+        .all(|(output, place)| agrees_at(output, w.entries(), *place))
 }
 
 // Whether a wallet struct is sound.
 pub fn good_pool(w: Pool) -> bool
     ensures { result ≡ good w }
 {
-    let entries_ok = entries_sound(w);
-    if !entries_ok {
-        return false;
-    }
-    let payments_ok = payments_sound(w);
-    if !payments_ok {
-        return false;
-    }
-    let entries = w.entries;
-    let payments = w.payments;
-    let block = flat::payments_block(payments, w.paying);
-    let made = flat::made_of(block);
-    outputs_agree(made, entries, w.used)
+    entries_sound(&w)
+        && payments_sound(&w)
+        && outputs_agree(flat::made_of(flat::payments_block(&w)), &w)
 }

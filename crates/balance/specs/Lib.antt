@@ -1,4 +1,3 @@
 pub mod Worth
 pub mod Picked
-pub mod Summing
 pub mod WorthLaws

@@ -1,34 +1,33 @@
--- What the loops over the pool read and leave: pending payments as a block, references found among others, and the list
--- of entries that a loop has picked.
-use Rattle.std.specs.Prelude.{ℕ, ◌-◌, ◌≤◌, ◌<◌, min, ◌≡◌, Bool, not, ◌&&◌, List, map, eqb, ltb, length, get_or, take, replicate}
-use Rattle.std.proofs.Common.{ap, ◌∙◌, map-id, arith, length-append}
+-- What the loops read and leave: pending payments as a block, references found among others, and what is available and
+-- what is made, laid flat.
+use Rattle.std.specs.Prelude.{ℕ, ◌+◌, ◌≤◌, ◌<◌, ◌≡◌, Bool, true, false, not, ◌&&◌, List, map, length, get_or, take}
+use Rattle.std.proofs.Common.{ap, sym, ◌∙◌, arith}
 use Rattle.std.proofs.lemmas.Simd.{map-map}
-use Rattle.std.proofs.lemmas.List.{length-replicate}
-use Rattle.sets.specs.Sets.{any, has, keep}
+use Rattle.sets.specs.Sets.{has, keep}
+use Rattle.sets.specs.Laws.{keep-keep, keep_same}
 use Rattle.sets.specs.Maps.{any-map, any-keep}
-use Rattle.sets.specs.Fill.{filled, take_done, gained, Gaining, gained_kept}
+use Rattle.sets.specs.Fill.{filled, gained, Gaining, mapped_at}
 use Rattle.rules.specs.declared.Reference.{Reference}
 use Rattle.rules.specs.declared.Entry.{Entry}
 use Rattle.rules.specs.Sizes.{most_references}
 use Rattle.rules.specs.Chain as Chain
 use Rattle.rules.specs.Chain.{same_reference, made, spent, is_own}
+use Rattle.rules.specs.States.{own_made, without_references}
 use Rattle.rules.specs.Balances.{available}
 use Rattle.chain.specs.View.{view_transaction, view_block}
-use Rattle.chain.specs.declared.Transaction.{Transaction}
 use Rattle.chain.specs.declared.Block.{Block}
 use Rattle.pool.specs.declared.Held.{Held}
 use Rattle.pool.specs.declared.Payment.{Payment}
 use Rattle.pool.specs.declared.Pool.{Pool}
 use Rattle.pool.specs.Marks.{marked}
-use Rattle.pool.specs.Book.{zero_held}
-use Rattle.pool.specs.View.{entries_of, payments_of, pending_at, view}
-use Rattle.pool.specs.RefusalLaws.{is_available, stands_available, available_places}
+use Rattle.pool.specs.View.{entries_of, payments_of, pending_at, utxo_at, view}
 use Rattle.pool.specs.BalanceLaws.{is_change}
-use Rattle.flat.specs.declared.Made.{Made}
-use Rattle.flat.specs.declared.Refs.{Refs}
-use Rattle.flat.specs.declared.Places.{Places}
-use Rattle.flat.specs.Flat.{zero_entry, refs_of, made_of, places_of, block_of, refs_in, made_in, seek}
-use Rattle.flat.specs.Told.{refs_back, made_back, block_back, tells}
+use Rattle.pool.specs.RefusalLaws.{is_available, stands_available, available_places}
+use Rattle.fixed.specs.Filled.{items_in, with_item}
+use Rattle.fixed.specs.Laws.{items-filled, kept_pushed, kept_passed}
+use Rattle.flat.specs.Flat.{Made, Refs, Found}
+use Rattle.flat.specs.Flat.{zero_entry, refs_of, made_of, found_of, block_of, refs_in, made_in}
+use Rattle.flat.specs.Told.{refs_back, made_back, block_back}
 
 -- the block of the payments that are pending holds them
 pub pending_back : (ps : List Payment) → view_block (block_of (map (λ p. p.transaction) (keep (λ p. marked 0 p.pending) ps))) ≡ pending_at 0 ps
@@ -36,16 +35,40 @@ pending_back ps =
     let now : List Payment = keep (λ p. marked 0 p.pending) ps in
     block_back (map (λ p. p.transaction) now) ∙ map-map view_transaction (λ (p : Payment). p.transaction) now
 
--- ── found
+-- ── what is left of a list without some references
 
--- each reference was found at a place below the end exactly where it is among those of another list that was laid flat
-pub found_of :
-    {A : Type 0} (f : A → Reference) (l : List A) (k : ℕ) (these : Refs) → these ≡ refs_of (map f (take k l)) →
-    (d : A) (b : List Reference) (those : Refs) (places : Places) (j : ℕ) →
-    those ≡ refs_of b → places ≡ places_of (map (λ x. seek x (refs_in those)) (refs_in these)) → j < these.count →
-    ltb (get_or places.at j 0) those.count ≡ has same_reference (f (get_or l j d)) b
-found_of f l k these e d b those places j laid g h =
-    tells f l k these e d those places b those.count (ap refs_in laid ∙ refs_back b) g (ap (λ (q : Refs). q.count) laid) j h
+-- of each entry of a list whether its reference was found
+pub flags_are :
+    (l : List Entry) (b : List Reference) (these : Refs) (found : Found) (flags : List Bool) →
+    these ≡ refs_of (map (λ e. e.reference) l) → found ≡ found_of (map (λ x. has same_reference x b) (refs_in these)) → flags ≡ items_in found →
+    flags ≡ map (λ e. has same_reference e.reference b) l
+flags_are l b these found flags e h k =
+    k
+    ∙ ap items_in h
+    ∙ items-filled most_references false (map (λ x. has same_reference x b) (refs_in these))
+    ∙ ap (map (λ x. has same_reference x b)) (ap refs_in e ∙ refs_back (map (λ e. e.reference) l))
+    ∙ map-map (λ x. has same_reference x b) (λ (y : Entry). y.reference) l
+
+-- a turn of the loop that goes over a list and its flags, at an entry without the flag and at one with it
+module _
+    (p : Entry → Bool) (l : List Entry) (flags : List Bool) (e : flags ≡ map p l) (n m : ℕ) (x : Entry) (flag : Bool) (h : n < length l)
+    (a : (d : Entry) → x ≡ get_or l n d) (b : (d : Bool) → flag ≡ get_or flags n d) (next : m ≡ n + 1) (old : Made)
+    (so_far : old ≡ made_of (keep (λ y. not (p y)) (take n l))) where
+  told : flag ≡ p (get_or l n zero_entry)
+  told = b false ∙ ap (λ (q : List Bool). get_or q n false) e ∙ mapped_at p l n zero_entry false h
+
+  pub left_pushed : (new : Made) → length l ≤ most_references → flag ≡ false → new ≡ with_item old x → new ≡ made_of (keep (λ y. not (p y)) (take m l))
+  left_pushed new few f w =
+      kept_pushed most_references zero_entry (λ y. not (p y)) l n zero_entry old new so_far h few (ap not (sym told ∙ f))
+      (w ∙ ap (with_item old) (a zero_entry))
+      ∙ ap (λ (k : ℕ). made_of (keep (λ y. not (p y)) (take k l))) (sym next)
+
+  pub left_passed : flag ≡ true → old ≡ made_of (keep (λ y. not (p y)) (take m l))
+  left_passed f =
+      kept_passed most_references zero_entry (λ y. not (p y)) l n zero_entry old so_far h (ap not (sym told ∙ f))
+      ∙ ap (λ (k : ℕ). made_of (keep (λ y. not (p y)) (take k l))) (sym next)
+
+-- ── pending payments
 
 -- what the pending payments take
 pub taken_back :
@@ -59,51 +82,14 @@ taken_back ps pending taken e f = f ∙ ap (λ (b : Block). refs_of (spent (view
 -- after the last turn the array with its count is the list that was picked
 pub picked_all :
     (live : ℕ → Bool) (at : ℕ → Entry) (end : ℕ) (kept : List Entry) (count i : ℕ) → end ≤ i →
-    Gaining most_references zero_entry live at end kept count i → record { entries = kept; count = count } ≡ made_of (gained live at end)
+    Gaining most_references zero_entry live at end kept count i → record { items = kept; count = count } ≡ made_of (gained live at end)
 picked_all live at end kept count i h g =
     let here : i ≡ end = omega (arith, g.0) in
-    let entries : kept ≡ filled most_references zero_entry (gained live at end) = g.4 ∙ ap (λ (k : ℕ). filled most_references zero_entry (gained live at k)) here in
+    let items : kept ≡ filled most_references zero_entry (gained live at end) = g.4 ∙ ap (λ (k : ℕ). filled most_references zero_entry (gained live at k)) here in
     let many : count ≡ length (gained live at end) = g.3 ∙ ap (λ (k : ℕ). length (gained live at k)) here in
-    λ t. record { entries = entries t; count = many t }
+    λ t. record { items = items t; count = many t }
 
--- what stands in a place of the pool
-abbrev pub entry_at : List Held → ℕ → Entry
-entry_at l j = (get_or l j zero_held).entry
-
--- where the flag of each place of the pool is a test of it, the picked list is what the test keeps of the used places
-pub picked_held :
-    (live : ℕ → Bool) (p : Held → Bool) (l : List Held) (used end : ℕ) → length l ≡ most_references → end ≡ min used most_references →
-    ((j : ℕ) → j < end → live j ≡ p (get_or l j zero_held)) →
-    made_of (gained live (entry_at l) end) ≡ made_of (map (λ h. h.entry) (keep p (take used l)))
-picked_held live p l used end h e same =
-    ap made_of
-    (gained_kept live (λ (x : Held). x.entry) p l zero_held end (omega arith) same
-    ∙ ap (λ (r : List Held). map (λ (x : Held). x.entry) (keep p r)) (take_done l used most_references end end h e (omega arith) (omega arith)))
-
--- ── picked of a list laid flat
-
--- a list that was laid flat into an array has room in it
-pub made_fits : (l : List Entry) (m : Made) → m ≡ made_of l → length m.entries ≡ most_references → m.count ≤ most_references
-made_fits l m e h =
-    omega (
-      arith,
-      ap (λ (x : Made). x.count) e,
-      ap (λ (x : Made). length x.entries) e,
-      length-append l (replicate (most_references - length l) zero_entry),
-      length-replicate (most_references - length l) zero_entry,
-    )
-
--- where the flag of each place is a test of it, the picked list is what the test keeps
-pub picked_made :
-    (live : ℕ → Bool) (p : Entry → Bool) (l : List Entry) (m : Made) → m ≡ made_of l → length m.entries ≡ most_references →
-    ((j : ℕ) → j < m.count → live j ≡ p (get_or m.entries j zero_entry)) →
-    made_of (gained live (λ j. get_or m.entries j zero_entry) m.count) ≡ made_of (keep p l)
-picked_made live p l m e h same =
-    ap made_of
-    (gained_kept live (λ (x : Entry). x) p m.entries zero_entry m.count (omega (arith, made_fits l m e h)) same
-    ∙ map-id (keep p (made_in m))
-    ∙ ap (λ (x : Made). keep p (made_in x)) e
-    ∙ ap (keep p) (made_back l))
+-- ── laid flat
 
 -- the references of the available entries are those that stand available
 pub stands_free :
@@ -115,27 +101,52 @@ stands_free w r =
     ∙ any-map (λ (e : Entry). same_reference r e.reference) (λ (h : Held). h.entry) (keep (is_available (payments_of w)) (entries_of w))
     ∙ any-keep (λ (h : Held). same_reference r h.entry.reference) (is_available (payments_of w)) (entries_of w)
 
--- the references of the available entries, laid flat
-pub free_back :
-    (w : Pool) (m : Made) (free : Refs) → m ≡ made_of (available (view w).present) → free ≡ refs_of (map (λ e. e.reference) (made_in m)) →
-    free ≡ refs_of (map (λ e. e.reference) (available (view w).present))
-free_back w m free e f =
-    f ∙ ap (λ (x : Made). refs_of (map (λ (y : Entry). y.reference) (made_in x))) e ∙ ap (λ (l : List Entry). refs_of (map (λ (y : Entry). y.reference) l)) (made_back (available (view w).present))
+-- what is left of the unspent outputs without what the pending payments take is available
+pub available_told :
+    (w : Pool) (utxo m : Made) (taken : Refs) → utxo ≡ made_of (utxo_at 0 (entries_of w)) → taken ≡ refs_of (spent (pending_at 0 (payments_of w))) →
+    m ≡ made_of (without_references (refs_in taken) (made_in utxo)) → m ≡ made_of (available (view w).present)
+unfolding available
+available_told w utxo m taken e f g =
+    let unspent = ap made_in e ∙ made_back (utxo_at 0 (entries_of w)) in
+    let spent_now = ap refs_in f ∙ refs_back (spent (pending_at 0 (payments_of w))) in
+    g ∙ (λ t. made_of (without_references (spent_now t) (unspent t)))
 
--- all that the pending payments make, laid flat
-pub outputs_back :
-    (ps : List Payment) (pending : Block) (m : Made) →
-    pending ≡ block_of (map (λ p. p.transaction) (keep (λ p. marked 0 p.pending) ps)) → m ≡ made_of (made (view_block pending)) →
-    m ≡ made_of (made (pending_at 0 ps))
-outputs_back ps pending m e f = f ∙ ap (λ (b : Block). made_of (made (view_block b))) e ∙ ap (λ (l : List Chain.Transaction). made_of (made l)) (pending_back ps)
-
--- the flag of an output: own, not taken, not available already
+-- what is left of the own outputs without that and without what is available is the change
 pub change_told :
-    (w : Pool) (own : List ℕ) (e : Entry) (is-taken is_free : Bool) → own ≡ take w.owns w.own →
-    is-taken ≡ has same_reference e.reference (spent (pending_at 0 (payments_of w))) →
-    is_free ≡ has same_reference e.reference (map (λ x. x.reference) (available (view w).present)) →
-    (any (eqb e.address) own && not is-taken && not is_free) ≡ is_change (take w.owns w.own) (entries_of w) (payments_of w) e
-unfolding is_own
-change_told w own e is-taken is_free o t f =
-    let free = f ∙ stands_free w e.reference in
-    λ i. any (eqb e.address) (o i) && not (t i) && not (free i)
+    (w : Pool) (own left free m : Made) (taken here : Refs) →
+    own ≡ made_of (own_made (take w.owns w.own) (pending_at 0 (payments_of w))) →
+    taken ≡ refs_of (spent (pending_at 0 (payments_of w))) → left ≡ made_of (without_references (refs_in taken) (made_in own)) →
+    free ≡ made_of (available (view w).present) → here ≡ refs_of (map (λ e. e.reference) (made_in free)) →
+    m ≡ made_of (without_references (refs_in here) (made_in left)) →
+    m ≡ made_of (keep (is_change (take w.owns w.own) (entries_of w) (payments_of w)) (made (pending_at 0 (payments_of w))))
+change_told w own left free m taken here e f g h k r =
+    let made_now : List Entry = made (pending_at 0 (payments_of w)) in
+    let mine : Entry → Bool = is_own (take w.owns w.own) in
+    let untaken : Entry → Bool = λ y. not (has same_reference y.reference (spent (pending_at 0 (payments_of w)))) in
+    let own_now = ap made_in e ∙ made_back (keep mine made_now) in
+    let spent_now = ap refs_in f ∙ refs_back (spent (pending_at 0 (payments_of w))) in
+    let left_now =
+    ap made_in (g ∙ (λ t. made_of (without_references (spent_now t) (own_now t)))) ∙ made_back (keep untaken (keep mine made_now)) ∙ keep-keep untaken mine made_now
+    in
+    let free_now = ap made_in h ∙ made_back (available (view w).present) in
+    let here_now =
+    ap refs_in (k ∙ (λ t. refs_of (map (λ (y : Entry). y.reference) (free_now t))))
+    ∙ refs_back (map (λ (y : Entry). y.reference) (available (view w).present))
+    in
+    r
+    ∙ (λ t. made_of (without_references (here_now t) (left_now t)))
+    ∙ ap made_of
+    (keep-keep (λ y. not (has same_reference y.reference (map (λ z. z.reference) (available (view w).present)))) (λ y. mine y && untaken y) made_now
+    ∙ keep_same _ (is_change (take w.owns w.own) (entries_of w) (payments_of w)) made_now
+    (λ y i. ap (λ (b : Bool). (mine y && untaken y) && not b) (stands_free w y.reference)))
+
+-- the own ones of all that the pending payments make
+pub own_told :
+    (w : Pool) (own : List ℕ) (pending : Block) (outputs m : Made) → own ≡ take w.owns w.own →
+    pending ≡ block_of (map (λ p. p.transaction) (keep (λ p. marked 0 p.pending) (payments_of w))) → outputs ≡ made_of (made (view_block pending)) →
+    m ≡ made_of (keep (is_own own) (made_in outputs)) → m ≡ made_of (own_made (take w.owns w.own) (pending_at 0 (payments_of w)))
+own_told w own pending outputs m o e f g =
+    let outputs_now =
+    ap made_in f ∙ made_back (made (view_block pending)) ∙ ap (λ (b : Block). made (view_block b)) e ∙ ap made (pending_back (payments_of w))
+    in
+    g ∙ (λ t. made_of (keep (is_own (o t)) (outputs_now t)))

@@ -1,16 +1,17 @@
 -- The balances of a sound wallet struct as sums over the lists that the code lays flat: the available list and the change
 -- come to the available and the total balance.
-use Rattle.std.specs.Prelude.{◌+◌, ◌*◌, ◌≤◌, ◌≡◌, refl, true, false, cond, T, leb, length, take}
-use Rattle.std.proofs.Common.{ap, arith, leb→le, le→leb}
+use Rattle.std.specs.Prelude.{◌+◌, ◌*◌, ◌^◌, ◌≤◌, ◌<◌, ◌≡◌, refl, Bool, true, T, leb, length, sum_by, take}
+use Rattle.std.proofs.Common.{ap, arith, leb→le, le→leb, subst, sym, ◌∙◌}
+use Rattle.std.proofs.lemmas.List.Recursion.{is_sum_by}
 use Rattle.std.proofs.Math.Bool.{not}
 use mathlib.Core.List.Memᴰ
 use mathlib.Core.List.{List, ◌++◌, Memᴰ}
-use Rattle.sets.specs.Sets.{all, has, keep, total}
-use Rattle.sets.specs.Tests.{cond_true}
+use Rattle.sets.specs.Sets.{all, has, keep}
+use Rattle.sets.specs.Tests.{cond_true, either_way}
 use Rattle.sets.specs.Laws.{all_intro, all_elim, keep_from, total_bound, map_elim, gather_intro, gather_elim}
 use Rattle.rules.specs.declared.Entry.{Entry}
 use Rattle.rules.specs.declared.Output.{Output}
-use Rattle.rules.specs.Sizes.{largest_amount}
+use Rattle.rules.specs.Sizes.{largest_amount, most_references}
 use Rattle.rules.specs.Chain as Chain
 use Rattle.rules.specs.Chain.{same_reference, entry_of, makes, made, spent, worth, shaped_transaction}
 use Rattle.rules.specs.ShapeLaws.{shaped_facts}
@@ -24,9 +25,27 @@ use Rattle.pool.specs.BalanceLaws.{is_change, total_pool}
 use Rattle.flat.specs.Flat.{made_in, made_of}
 use Rattle.flat.specs.Told.{made_back}
 use Rattle.balance.specs.Worth.{worth_within}
-use Rattle.balance.specs.Summing.{within, counted, counted_most, sum_within}
 
 -- ── any list
+
+-- an amount within the limit
+abbrev pub within : Entry → Bool
+within e = leb e.amount largest_amount
+
+-- where none is above the limit, it is at most the largest amount for each entry
+pub within_most : (l : List Entry) → T (all within l) → worth l ≤ length l * largest_amount
+within_most l t = total_bound (λ e. e.amount) largest_amount l (λ e m. leb→le e.amount largest_amount (all_elim within t m))
+
+-- the worth is the sum of the amounts
+pub worth_sum : (l : List Entry) → worth l ≡ sum_by (λ e. e.amount) l
+worth_sum l = is_sum_by worth (λ (e : Entry). e.amount) refl (λ e m. refl) l
+
+-- so where none is above the limit, that sum fits
+pub sum_fits : (l : List Entry) → all within l ≡ true → length l ≤ most_references → sum_by (λ e. e.amount) l < 2 ^ 64
+sum_fits l e h = omega (arith, worth_sum l, within_most l (subst T (sym e) tt))
+
+pub sum_within : (l : List Entry) → all within l ≡ true → sum_by (λ e. e.amount) l ≡ worth_within l
+sum_within l e = sym (worth_sum l) ∙ sym (cond_true (all within l) (worth l) 0 (subst T (sym e) tt))
 
 -- where no amount is above the limit it is the worth
 pub within_worth : (l : List Entry) → ((e : Entry) → Memᴰ e l → e.amount ≤ largest_amount) → worth_within l ≡ worth l
@@ -35,16 +54,7 @@ within_worth l f =
 
 -- it is at most the largest amount for each entry
 pub worth_most : (l : List Entry) → worth_within l ≤ length l * largest_amount
-worth_most l =
-    omega (
-      arith,
-      sum_within l,
-      cond_most,
-      total_bound counted largest_amount l (λ e m. counted_most e),
-    )
-  where
-    cond_most : cond (all within l) (total counted l) 0 ≤ total counted l
-    cond_most = elim (all within l) as (λ b. cond b (total counted l) 0 ≤ total counted l) [ true ↦ omega arith | false ↦ omega arith ]
+worth_most l = either_way (λ n. n ≤ length l * largest_amount) (all within l) (worth l) 0 (within_most l) (λ t. omega arith)
 
 -- laying a list flat does not change its worth
 pub worth_flat : (l : List Entry) → worth_within (made_in (made_of l)) ≡ worth_within l

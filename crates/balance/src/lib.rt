@@ -1,158 +1,116 @@
 // The present state's sets and their worth, read off the pool. Every function takes any struct.
 #![tactic(auto)]
 
-ghost use Rattle.std.specs.Prelude.{cond, ◌≡◌, leb, take};
+ghost use Rattle.std.specs.Prelude.{Bool, ◌≡◌, ◌<◌, ◌^◌, leb, map, sum_by, take};
+ghost use Rattle.std.specs.Fn.{AnyResult};
 ghost use Rattle.balance.specs.Worth.{worth_within};
-ghost use Rattle.flat.specs.Flat.{made_in, made_of};
+ghost use Rattle.flat.specs.Flat.{made_in, made_of, refs_in, refs_of};
 ghost use Rattle.pool.specs.BalanceLaws.{is_change};
 ghost use Rattle.pool.specs.View.{entries_of, expected_at, payments_of, pending_at, utxo_at, view};
 ghost use Rattle.rules.specs.Balances.{available};
-ghost use Rattle.rules.specs.Chain.{made};
+ghost use Rattle.rules.specs.Chain.{made, spent};
 ghost use Rattle.rules.specs.Sizes.{largest_amount};
-ghost use Rattle.sets.specs.Sets.{keep};
+ghost use Rattle.rules.specs.States.{own_made, without_references};
+ghost use Rattle.sets.specs.Sets.{all, keep};
 
-use flat::Made;
-use pool::Pool;
-use rules::{LARGEST_AMOUNT, MOST_OWN, MOST_REFERENCES};
+use flat::{Made, Refs};
+use pool::{Held, Pool};
+use rules::{Entry, LARGEST_AMOUNT};
+
+// The entries of the places that pass a test.
+fn entries_where<F: Fn(&Held) -> bool>(w: &Pool, keeps: F) -> Made
+    requires { F.IsAlwaysCallable keeps }
+    ensures { (p : Held → Bool) → ((h : _) → AnyResult F.Fn keeps (h, tt) (λ b. b ≡ p h.now)) → result ≡ made_of (map (λ h. h.entry) (keep p (entries_of w.now))) }
+{
+    let mut kept = Made::none(flat::zero_entry());
+    for held in w.entries() {
+        if keeps(held) {
+            kept.push(held.entry);
+        }
+    }
+    kept
+}
 
 // The unspent outputs.
 pub fn utxo_of(w: Pool) -> Made
     ensures { result ≡ made_of (utxo_at 0 (entries_of w)) }
 {
-    let entries = w.entries;
-    let end = flat::capped(w.used, MOST_REFERENCES);
-    let mut kept = [flat::zero_entry(); MOST_REFERENCES];
-    let mut count: usize = 0;
-    let mut i = 0;
-    while i < end {
-        let held = entries[i];
-        let entry = held.entry;
-        let live = held.utxo % 2 == 1;
-        kept[count] = flat::entry_if(live, entry);
-        count += live as usize;
-        i += 1;
-    }
-    Made {
-        entries: kept,
-        count,
-    }
+    entries_where(&w, |held| held.is_unspent())
 }
 
 // The expected outputs.
 pub fn expected_of(w: Pool) -> Made
     ensures { result ≡ made_of (expected_at 0 (entries_of w)) }
 {
-    let entries = w.entries;
-    let end = flat::capped(w.used, MOST_REFERENCES);
-    let mut kept = [flat::zero_entry(); MOST_REFERENCES];
-    let mut count: usize = 0;
-    let mut i = 0;
-    while i < end {
-        let held = entries[i];
-        let entry = held.entry;
-        let live = held.expected % 2 == 1;
-        kept[count] = flat::entry_if(live, entry);
-        count += live as usize;
-        i += 1;
+    entries_where(&w, |held| held.is_expected())
+}
+
+// What the pending payments take.
+fn taken_of(w: &Pool) -> Refs
+    ensures { result ≡ refs_of (spent (pending_at 0 (payments_of w.now))) }
+{
+    flat::spent_of(flat::pending_block(w))
+}
+
+// The entries of a list whose references do not stand in another.
+fn without(made: Made, refs: Refs) -> Made
+    ensures { result ≡ made_of (without_references (refs_in refs) (made_in made)) }
+{
+    let found = flat::found(flat::made_refs(made), refs);
+    let mut kept = Made::none(flat::zero_entry());
+    for (entry, is_found) in made.as_slice().iter().zip(found.as_slice()) {
+        if !*is_found {
+            kept.push(*entry);
+        }
     }
-    Made {
-        entries: kept,
-        count,
-    }
+    kept
 }
 
 // The unspent outputs that no pending payment takes.
 pub fn available_of(w: Pool) -> Made
     ensures { result ≡ made_of (available (view w).present) }
 {
-    let entries = w.entries;
-    let payments = w.payments;
-    let pending = flat::pending_block(payments, w.paying);
-    let taken = flat::spent_of(pending);
-    let refs = flat::held_refs(entries, w.used);
-    let at = flat::sought(refs, taken).at;
-    let stop = taken.count;
-    let end = refs.count;
-    let mut kept = [flat::zero_entry(); MOST_REFERENCES];
-    let mut count: usize = 0;
-    let mut i = 0;
-    while i < end {
-        let held = entries[i];
-        let entry = held.entry;
-        let unspent = held.utxo % 2 == 1;
-        let is_taken = at[i] < stop;
-        let live = unspent & !is_taken;
-        kept[count] = flat::entry_if(live, entry);
-        count += live as usize;
-        i += 1;
-    }
-    Made {
-        entries: kept,
-        count,
-    }
+    without(utxo_of(w), taken_of(&w))
+}
+
+// The own outputs of the pending payments.
+fn own_made(w: &Pool) -> Made
+    ensures { result ≡ made_of (own_made (take w.now.owns w.now.own) (pending_at 0 (payments_of w.now))) }
+{
+    flat::own_of(flat::made_of(flat::pending_block(w)), w.own())
 }
 
 // The change: own outputs of pending payments that no pending payment takes, and that are not available already.
 pub fn change_of(w: Pool) -> Made
     ensures { result ≡ made_of (keep (is_change (take w.owns w.own) (entries_of w) (payments_of w)) (made (pending_at 0 (payments_of w)))) }
 {
-    let payments = w.payments;
-    let pending = flat::pending_block(payments, w.paying);
-    let taken = flat::spent_of(pending);
-    let outputs = flat::made_of(pending);
-    let refs = flat::made_refs(outputs);
-    let free = flat::made_refs(available_of(w));
-    let taken_at = flat::sought(refs, taken).at;
-    let free_at = flat::sought(refs, free).at;
-    let taken_stop = taken.count;
-    let free_stop = free.count;
-    let own = w.own;
-    let owns = flat::capped(w.owns, MOST_OWN);
-    let list = &own[..owns];
-    let entries = outputs.entries;
-    let end = outputs.count;
-    let mut kept = [flat::zero_entry(); MOST_REFERENCES];
-    let mut count: usize = 0;
-    let mut i = 0;
-    while i < end {
-        let entry = entries[i];
-        let is_own = flat::is_own(list, entry.address);
-        let is_taken = taken_at[i] < taken_stop;
-        let is_free = free_at[i] < free_stop;
-        let live = is_own & !is_taken & !is_free;
-        kept[count] = flat::entry_if(live, entry);
-        count += live as usize;
-        i += 1;
-    }
-    Made {
-        entries: kept,
-        count,
-    }
+    let left = without(own_made(&w), taken_of(&w));
+    without(left, flat::made_refs(available_of(w)))
 }
 
-// An amount, or 0 where it is over the limit.
-fn amount_within(amount: u64) -> u64
-    ensures { result ≡ cond (leb amount largest_amount) amount 0 }
+// Whether every amount is within the limit.
+fn is_within(entries: &[Entry]) -> bool
+    ensures { result ≡ all (λ e. leb e.amount largest_amount) entries.now }
 {
-    if amount <= LARGEST_AMOUNT { amount } else { 0 }
+    entries.iter().all(|e| e.amount <= LARGEST_AMOUNT)
+}
+
+// The sum of some amounts.
+fn sum_of(entries: &[Entry]) -> u64
+    requires { sum_by (λ e. e.amount) entries.now < 2 ^ 64 }
+    ensures { result ≡ sum_by (λ e. e.amount) entries.now }
+{
+    entries.iter().map(|e| e.amount).sum()
 }
 
 // The lovelace of a list of entries; 0 where an amount is over the limit, which no sound wallet holds.
 pub fn worth_of(list: Made) -> u64
     ensures { result ≡ worth_within (made_in list) }
 {
-    let entries = list.entries;
-    let end = flat::capped(list.count, MOST_REFERENCES);
-    let mut sum: u64 = 0;
-    let mut ok = true;
-    let mut i = 0;
-    while i < end {
-        let entry = entries[i];
-        let within = entry.amount <= LARGEST_AMOUNT;
-        let amount = amount_within(entry.amount);
-        ok = ok & within;
-        sum += amount;
-        i += 1;
+    let entries = list.as_slice();
+    if is_within(entries) {
+        sum_of(entries)
+    } else {
+        0
     }
-    if ok { sum } else { 0 }
 }

@@ -1,4 +1,3 @@
-pub mod BlockTurns
 pub mod Lists
 pub mod Merging
-pub mod PaymentTurns
+pub mod Room

@@ -5,7 +5,6 @@ use Rattle.sets.specs.Tests.{equal_holds}
 use Rattle.sets.specs.Sets.{all, same_list}
 use Rattle.sets.specs.Walks.{every_facts, every_holds}
 use Rattle.rules.specs.Sizes.{most_inputs, most_outputs, most_transactions}
-use Rattle.rules.specs.Chain as Chain
 use Rattle.rules.specs.Chain.{same_number, same_reference, same_output}
 use Rattle.chain.specs.View.{no_number, no_reference, no_output, laid_out, no_transaction, laid_out_block, same_struct}
 use Rattle.chain.specs.declared.Transaction.{Transaction}

@@ -1,4 +1,5 @@
 pub mod View
+pub mod Rising
 pub mod Facts
 pub mod Checks
 pub mod ViewLaws

@@ -1,7 +1,9 @@
 -- A struct and its view: two structs that are laid out and have one view are equal, so the code's sameness of structs
 -- is the rules' sameness of what they hold; and an unused place is the one zero transaction.
-use Rattle.std.specs.Prelude.{ℕ, ◌≡◌, refl, T, take, replicate}
+use Rattle.std.specs.Prelude.{ℕ, ◌≡◌, refl, Bool, ◌&&◌, List, [], ◌∷◌, T, eqb, take, replicate}
+use Rattle.std.specs.Cmp.Lexicographic.{pointwise}
 use Rattle.std.proofs.Common.{sym, ap, subst, ◌∙◌, arith}
+use Rattle.sets.specs.Sets.{same_list}
 use Rattle.sets.specs.Tests.{and_left, and_right, same_test}
 use Rattle.sets.specs.Laws.{same_list_refl, same_list_eq}
 use Rattle.sets.specs.Walks.{all_one, all_replicate, places_one, map_one}
@@ -9,7 +11,7 @@ use Rattle.rules.specs.declared.Reference.{Reference}
 use Rattle.rules.specs.declared.Output.{Output}
 use Rattle.rules.specs.Sizes.{most_inputs, most_outputs}
 use Rattle.rules.specs.Chain as Chain
-use Rattle.rules.specs.Chain.{same_reference, same_output, same_transaction, shaped_transaction, shaped_block}
+use Rattle.rules.specs.Chain.{same_number, same_reference, same_output, same_transaction, shaped_transaction, shaped_block}
 use Rattle.rules.specs.ChainLaws.{same_number_refl, same_number_eq, same_reference_refl, same_reference_eq, same_output_refl, same_output_eq, same_transaction_refl, same_transaction_eq}
 use Rattle.chain.specs.View.{zero_number, zero_reference, zero_output, zero_transaction, no_reference, no_output, view_transaction, view_block, laid_out, no_transaction, laid_out_block, good_transaction, good_block, same_struct}
 use Rattle.chain.specs.Facts.{laid_out_facts, unused_facts, unused, laid_out_block_facts, same_struct_facts, same_struct_lem}
@@ -145,3 +147,29 @@ same_struct_view a b s t =
     subst (λ (c : Transaction). T (same_transaction (view_transaction a) (view_transaction c))) (same_struct_eq a b h) (same_transaction_refl (view_transaction a)))
     (λ (h : T (same_transaction (view_transaction a) (view_transaction b))).
     subst (λ (c : Transaction). T (same_struct a c)) (view_one a b s t (same_transaction_eq (view_transaction a) (view_transaction b) h)) (same_struct_refl a))
+
+-- a place holds no transaction just where it holds the zero transaction
+pub same_struct_zero : (t : Transaction) → same_struct t zero_transaction ≡ no_transaction t
+same_struct_zero t =
+    same_test (same_struct t zero_transaction) (no_transaction t)
+    (λ (h : T (same_struct t zero_transaction)). subst (λ (u : Transaction). T (no_transaction u)) (sym (same_struct_eq t zero_transaction h)) zero_no_transaction)
+    (λ (h : T (no_transaction t)). subst (λ (u : Transaction). T (same_struct u zero_transaction)) (sym (no_transaction_zero t h)) (same_struct_refl zero_transaction))
+
+-- lists compared place by place, as `==` compares arrays, are compared as lists are
+same_places : {A : Type 0} (e same : A → A → Bool) → ((x y : A) → e x y ≡ same x y) → (l m : List A) → pointwise e l m ≡ same_list same l m
+same_places e same one [] [] = refl
+same_places e same one [] (y ∷ m) = refl
+same_places e same one (x ∷ l) [] = refl
+same_places e same one (x ∷ l) (y ∷ m) = rw (one x y, same_places e same one l m) refl
+
+-- field by field, as `==` compares structs, is the sameness of structs
+pub same_fields :
+    {number r : Bool} {e : Reference → Reference → Bool} {f : Output → Output → Bool} (a b : Transaction) →
+    r ≡ (number && (pointwise e a.inputs b.inputs && (eqb a.takes b.takes && (pointwise f a.outputs b.outputs && eqb a.makes b.makes)))) →
+    number ≡ same_number a.number b.number → ((x y : Reference) → e x y ≡ same_reference x y) → ((x y : Output) → f x y ≡ same_output x y) →
+    r ≡ same_struct a b
+unfolding same_struct
+same_fields {e = e} {f} a b h n p q =
+    let inputs = same_places e same_reference p a.inputs b.inputs in
+    let outputs = same_places f same_output q a.outputs b.outputs in
+    grind (arith, h, n, inputs, outputs)

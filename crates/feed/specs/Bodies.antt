@@ -1,21 +1,18 @@
 -- Whole bodies as the code hands them back: the answer with the value beside it, zeros where a value does not apply. For
 -- each case of an answer the paper's number and place.
-use Rattle.std.specs.Prelude.{ℕ, List, length, replicate}
+use Rattle.std.specs.Prelude.{ℕ, List, length, replicate, Result, Ok, Err}
 use Rattle.sets.specs.Fill.{filled}
 use Rattle.chain.specs.View.{zero_transaction}
 use Rattle.rules.specs.Sizes.{most_own, most_transactions}
 use Rattle.rules.specs.Chain as Chain
-use Rattle.chain.specs.declared.Transaction.{Transaction}
 use Rattle.chain.specs.declared.Block.{Block}
 use Rattle.format.specs.Fields.{Reading, got, fault}
 use Rattle.format.specs.Bodies as Format
 use Rattle.format.specs.Bodies.{own_body, block_body, pay_body, back_body, fault_at}
-use Rattle.feed.specs.Structs.{answered, valued, struct_of, places_of}
-use Rattle.feed.specs.declared.items.Answer.{Answer}
-use Rattle.feed.specs.declared.items.Answer.TheVariants.{Read, Fault}
+use Rattle.feed.specs.Structs.{read_as, struct_of, places_of}
+use Rattle.feed.specs.declared.fields.Fault.{Fault}
+use Rattle.feed.specs.declared.items.Read.{Read}
 use Rattle.feed.specs.declared.bodies.Own.{Own}
-use Rattle.feed.specs.declared.bodies.OwnRead.{OwnRead}
-use Rattle.feed.specs.declared.bodies.BlockRead.{BlockRead}
 use Rattle.feed.specs.declared.bodies.BodyRead.{BodyRead}
 use Rattle.feed.specs.declared.bodies.Body.{Body}
 use Rattle.feed.specs.declared.bodies.Body.TheVariants as Is
@@ -57,11 +54,11 @@ pay_reading size (pay_body t) = got t size
 pay_reading size back_body = fault 0
 pay_reading size (fault_at place) = fault place
 
-abbrev pub own_read : Reading (List ℕ) → OwnRead
-own_read m = record { answer = answered m; own = valued own_struct no_own m }
+abbrev pub own_read : Reading (List ℕ) → Read Own
+own_read m = read_as own_struct no_own m
 
-abbrev pub block_read : Reading Chain.Block → BlockRead
-block_read m = record { answer = answered m; block = valued block_of no_block m }
+abbrev pub block_read : Reading Chain.Block → Read Block
+block_read m = read_as block_of no_block m
 
 -- ── a body of any kind
 
@@ -70,9 +67,9 @@ abbrev pub bare : Body → BodyRead
 bare body = record { body = body; own = no_own; block = no_block; payment = zero_transaction }
 
 -- what a body is, unless its reading faulted
-abbrev pub fault_or : Answer → Body → Body
-fault_or (Read next) body = body
-fault_or (Fault place) body = Is.Fault place
+abbrev pub fault_or : Result ℕ Fault → Body → Body
+fault_or (Ok next) body = body
+fault_or (Err f) body = Is.Fault f.place
 
 abbrev pub body_read : Format.Body → BodyRead
 body_read (own_body own) = record { body = Is.Own; own = own_struct own; block = no_block; payment = zero_transaction }
@@ -83,13 +80,13 @@ body_read (fault_at place) = bare (Is.Fault place)
 
 -- ── the paper's number for each case, and the place beside it (0 where there is no fault)
 
-abbrev pub answer_number : Answer → ℕ
-answer_number (Read next) = 0
-answer_number (Fault place) = 1
+abbrev pub answer_number : Result ℕ Fault → ℕ
+answer_number (Ok next) = 0
+answer_number (Err f) = 1
 
-abbrev pub answer_place : Answer → ℕ
-answer_place (Read next) = 0
-answer_place (Fault place) = place
+abbrev pub answer_place : Result ℕ Fault → ℕ
+answer_place (Ok next) = 0
+answer_place (Err f) = f.place
 
 abbrev pub body_number : Body → ℕ
 body_number Is.Own = 0

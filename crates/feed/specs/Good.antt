@@ -1,6 +1,6 @@
 -- From a body straight to the wallet's types: the struct that holds a block or payment that was read is laid out and
 -- shaped, and what it holds is what the format reads. So a step never answers 1 to a body that was read.
-use Rattle.std.specs.Prelude.{◌≡◌, refl, List, [], ◌∷◌, map, ℕ, ◌-◌, ◌≤◌, T, length, take, drop}
+use Rattle.std.specs.Prelude.{◌≡◌, refl, List, [], ◌∷◌, map, ℕ, ◌≤◌, T, length, take, drop}
 use Rattle.std.proofs.Common.{sym, ap, subst, ◌∙◌, arith}
 use Rattle.std.proofs.lemmas.List.{length-map}
 use Rattle.sets.specs.Fill.{filled-length, filled_first, filled_rest}
@@ -20,16 +20,11 @@ use Rattle.format.specs.Bodies as Format
 use Rattle.format.specs.Bodies.{own_body, block_body, pay_body, read_body}
 use Rattle.format.proofs.WrittenRead.{own_shaped, block_shaped, payment_shaped}
 use Rattle.feed.specs.Structs.{struct_of, places_of}
+use Rattle.feed.specs.Transactions.{struct_view}
 use Rattle.feed.specs.Bodies.{own_struct, block_of}
 use Rattle.feed.specs.declared.bodies.Own.{Own}
 
 -- ── a transaction in its struct
-
-pub struct_view : (t : Chain.Transaction) → view_transaction (struct_of t) ≡ t
-struct_view t =
-    let x = filled_first most_inputs zero_reference t.inputs in
-    let y = filled_first most_outputs zero_output t.outputs in
-    λ i. record { number = t.number; inputs = x i; outputs = y i }
 
 pub struct_laid_out : (t : Chain.Transaction) → length t.inputs ≤ most_inputs → length t.outputs ≤ most_outputs → T (laid_out (struct_of t))
 struct_laid_out t g h =

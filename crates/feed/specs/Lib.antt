@@ -3,7 +3,6 @@ pub mod Structs
 pub mod Numbers
 pub mod Fields
 pub mod Items
-pub mod Sequence
 pub mod Held
 pub mod Transactions
 pub mod Bodies

@@ -3,7 +3,6 @@
 use Rattle.std.specs.Prelude.{◌≡◌, Bool, true, List, ℕ, ◌≤◌, T}
 use Rattle.std.proofs.Math.Path.{refl}
 use Rattle.std.proofs.Common.{sym, ap, subst, ◌∙◌, arith}
-use Rattle.chain.specs.declared.Block.{Block}
 use Rattle.format.specs.Bodies as Format
 use Rattle.format.specs.Bodies.{own_body, block_body, pay_body, back_body, fault_at, read_body, body_answer, body_place}
 use Rattle.format.specs.Feed.{count_in, kind_in, body_in, well_formed, row_kind, row_body}
@@ -11,7 +10,6 @@ use Rattle.format.proofs.Rows.{row_found_lem, is_row_lem}
 use Rattle.feed.specs.Bodies.{body_read, body_number, body_fault}
 use Rattle.feed.specs.Rows.{row_found}
 use Rattle.feed.specs.Good.{OwnGood, BlockGood, PaymentGood, own_held, block_held, payment_held}
-use Rattle.feed.specs.declared.bodies.Own.{Own}
 use Rattle.feed.specs.declared.bodies.Body.{Body}
 use Rattle.feed.specs.declared.bodies.Body.TheVariants as Is
 use Rattle.feed.specs.declared.bodies.BodyRead.{BodyRead}

@@ -1,14 +1,20 @@
 -- Whole bodies: a reading that is used up exactly, as the code tests it; a count and so many items; and the kinds.
-use Rattle.std.specs.Prelude.{◌≡◌, refl, Bool, true, false, cond, List, ℕ, T, eqb, leb, length}
-use Rattle.std.proofs.Common.{sym, ap, ◌∙◌, eqb→eq, eq-eqb, ne_eqb}
+use Rattle.std.specs.Prelude.{◌≡◌, refl, Bool, true, false, cond, List, map, ℕ, T, eqb, leb, length}
+use Rattle.std.proofs.Common.{sym, ap, ap₂, ◌∙◌, eqb→eq, eq-eqb, ne_eqb}
+use Rattle.std.proofs.lemmas.List.{length-map}
 use Rattle.std.proofs.Math.Option.{Option, none}
 use Rattle.chain.specs.View.{zero_transaction}
 use Rattle.rules.specs.Sizes.{most_own, most_transactions}
 use Rattle.rules.specs.Chain as Chain
-use Rattle.format.specs.Fields.{Reading, got, fault, Reader, field, ◌>>=◌, items}
+use Rattle.format.specs.Fields.{Reading, got, fault, Reader, field, onward, ◌>>=◌, items}
 use Rattle.format.specs.Bodies.{Body, own_body, block_body, pay_body, back_body, fault_at, own_kind, block_kind, pay_kind, back_kind, count_width, used_up, read_address, read_transaction, read_own, read_block, read_payment, read_body, body_answer, body_place}
-use Rattle.feed.specs.Structs.{answered, valued, struct_of}
+use Rattle.sets.specs.Fill.{filled}
+use Rattle.feed.specs.Items.{items_length}
+use Rattle.feed.specs.Transactions.{struct_items}
+use Rattle.feed.specs.Structs.{struct_reader, answered, valued, struct_of, formed, list_and_count, read_as}
 use Rattle.feed.specs.Bodies.{own_struct, no_own, block_of, no_block, own_reading, block_reading, pay_reading, bare, fault_or, body_read, answer_number, answer_place}
+use Rattle.chain.specs.declared.Transaction.{Transaction}
+use Rattle.chain.specs.declared.Block.{Block}
 use Rattle.feed.specs.declared.bodies.BodyRead.{BodyRead}
 use Rattle.feed.specs.declared.bodies.Body.TheVariants as Is
 
@@ -19,17 +25,6 @@ module _ {A : Type 0} where
   abbrev pub exactly : ℕ → Reading A → Reading A
   exactly size (got x next) = cond (eqb next size) (got x next) (fault next)
   exactly size (fault place) = fault place
-
-  pub exact_got : (size : ℕ) (m : Reading A) (x : A) (next : ℕ) → m ≡ got x next → next ≡ size → exactly size m ≡ got x next
-  exact_got size m x next e h =
-      ap (exactly size) e ∙ ap (λ (b : Bool). cond b (got x next) (fault next)) (eq-eqb next size h)
-
-  pub exact_over : (size : ℕ) (m : Reading A) (x : A) (next : ℕ) → m ≡ got x next → (next ≡ size → ⊥) → exactly size m ≡ fault next
-  exact_over size m x next e h =
-      ap (exactly size) e ∙ ap (λ (b : Bool). cond b (got x next) (fault next)) (ne_eqb next size h)
-
-  pub exact_fault : (size : ℕ) (m : Reading A) (place : ℕ) → m ≡ fault place → exactly size m ≡ fault place
-  exact_fault size m place e = ap (exactly size) e
 
   -- a body of one kind, taken out again
   taken_out : (body : A → Body) (out : Body → Reading A) (bytes : List ℕ) → ((x : A) → out (body x) ≡ got x (length bytes)) →
@@ -106,19 +101,65 @@ module _ {A : Type 0} (most : ℕ) (item : Option A → Reader A) where
     count ← field count_width (λ n. leb n most)
     items item count none
 
-  pub counted_fault : (bytes : List ℕ) (place : ℕ) → field count_width (λ n. leb n most) bytes place ≡ fault place → counted bytes place ≡ fault place
-  counted_fault bytes place e = rw e refl
+  -- the count and the items were read
+  pub counted_read : (z : A) (bytes : List ℕ) (n at next : ℕ) (l held : List A) → got n at ≡ field count_width (λ k. leb k most) bytes 0 →
+      items item n none bytes at ≡ got l next → held ≡ filled most z l → got (held, n) next ≡ formed (list_and_count most z) (counted bytes 0)
+  counted_read z bytes n at next l held e f g =
+      let k = items_length item bytes n none at l next f in
+      (λ i. got (g i, sym k i) next) ∙ rw (← e, f) refl
 
-  pub counted_items : (bytes : List ℕ) (place n at : ℕ) → field count_width (λ n. leb n most) bytes place ≡ got n at → counted bytes place ≡ items item n none bytes at
-  counted_items bytes place n at e = rw e refl
+-- ── a list behind its count, in its struct
 
-pub own_counted : (bytes : List ℕ) → read_own bytes 0 ≡ counted most_own read_address bytes 0
+-- a form of a form
+formed_again : {A B C : Type 0} (f : A → B) (g : B → C) (m : Reading A) (r : Reading B) → r ≡ formed f m → formed g r ≡ formed (λ x. g (f x)) m
+formed_again f g (got x next) r e = ap (formed g) e
+formed_again f g (fault p) r e = ap (formed g) e
+
+pub own_formed : (bytes : List ℕ) (r : Reading (List ℕ × ℕ)) → r ≡ formed (list_and_count most_own 0) (counted most_own read_address bytes 0) →
+    formed (λ x. record { addresses = x.0; count = x.1 }) r ≡ formed own_struct (read_own bytes 0)
 unfolding read_own
-own_counted bytes = refl
+own_formed bytes r e = formed_again (list_and_count most_own 0) (λ x. record { addresses = x.0; count = x.1 }) (counted most_own read_address bytes 0) r e
 
-pub block_counted : (bytes : List ℕ) → read_block bytes 0 ≡ counted most_transactions read_transaction bytes 0
+-- a block's transactions in their structs
+counted_structs : (bytes : List ℕ) → counted most_transactions struct_reader bytes 0 ≡ formed (map struct_of) (counted most_transactions read_transaction bytes 0)
+counted_structs bytes = here (field count_width (λ n. leb n most_transactions) bytes 0)
+  where
+    here : (r : Reading ℕ) →
+        onward r (λ n at. items struct_reader n none bytes at) ≡ formed (map struct_of) (onward r (λ n at. items read_transaction n none bytes at))
+    here (got n at) = struct_items n none bytes at
+    here (fault p) = refl
+
+pub block_formed : (z : Transaction) (bytes : List ℕ) (r : Reading (List Transaction × ℕ)) → z ≡ zero_transaction →
+    r ≡ formed (list_and_count most_transactions z) (counted most_transactions struct_reader bytes 0) →
+    formed (λ x. record { transactions = x.0; count = x.1 }) r ≡ formed block_of (read_block bytes 0)
 unfolding read_block
-block_counted bytes = refl
+block_formed z bytes r e f =
+    formed_again (list_and_count most_transactions z) (λ x. record { transactions = x.0; count = x.1 }) (counted most_transactions struct_reader bytes 0) r f
+    ∙ ap (formed (struct z)) (counted_structs bytes)
+    ∙ here (read_block bytes 0)
+  where
+    struct : Transaction → List Transaction → Block
+    struct x l = record { transactions = filled most_transactions x l; count = length l }
+
+    here : (m : Reading Chain.Block) → formed (struct z) (formed (map struct_of) m) ≡ formed block_of m
+    here (got b next) = λ i. got (record { transactions = filled most_transactions (e i) (map struct_of b); count = length-map b struct_of i }) next
+    here (fault p) = refl
+
+-- ── what the code makes of a whole body
+
+module _ {A S : Type 0} (form : A → S) (z : S) (size : ℕ) where
+  end_of : (m : Reading A) → read_as (λ x. x) z (exactly size (formed form m)) ≡ read_as form z (exactly size m)
+  end_of (got x next) =
+      elim (eqb next size) as
+      (λ b. read_as (λ x. x) z (cond b (got (form x) next) (fault next)) ≡ read_as form z (cond b (got x next) (fault next)))
+      [ true ↦ refl | false ↦ refl ]
+  end_of (fault p) = refl
+
+  -- the struct beside its answer, where the body has to end with what it holds
+  pub whole_read : (m body : Reading A) (zero : S) (r : Reading S) → zero ≡ z → r ≡ formed form m → body ≡ exactly size m →
+      read_as (λ x. x) zero (exactly size r) ≡ read_as form z body
+  whole_read m body zero r e f g =
+      ap₂ (λ (x : S) (y : Reading S). read_as (λ x. x) x (exactly size y)) e f ∙ end_of m ∙ ap (read_as form z) (sym g)
 
 -- ── the kinds
 

@@ -1,18 +1,19 @@
 // Bodies: own list, block, payment, rollback. A body must be used up exactly: the first byte left over is a fault.
-ghost use Rattle.std.specs.Prelude.{◌≡◌, length};
+ghost use Rattle.std.specs.Prelude.{◌≡◌, ℕ, Option, length};
 ghost use Rattle.chain.specs.View.{zero_transaction};
-ghost use Rattle.format.specs.Fields.{fault};
-ghost use Rattle.format.specs.Bodies.{back_kind, block_kind, own_kind, pay_kind, read_body};
-ghost use Rattle.feed.specs.Structs.{transaction_read};
-ghost use Rattle.feed.specs.Bodies.{bare, block_read, block_reading, body_read, fault_or, no_block, no_own, own_read, own_reading, pay_reading};
+ghost use Rattle.format.specs.Bodies.{back_kind, block_kind, own_kind, pay_kind, read_block, read_body, read_own};
+ghost use Rattle.feed.specs.Answers.{ItemReader, before, field_read};
+ghost use Rattle.feed.specs.Structs.{formed, list_and_count, read_as, transaction_read};
+ghost use Rattle.feed.specs.Bodies.{bare, block_of, block_read, block_reading, body_read, fault_or, no_block, no_own, own_read, own_reading, own_struct, pay_reading};
+ghost use Rattle.feed.specs.Whole.{counted, exactly};
 
-use crate::fields::{COUNT_WIDTH, Field, up_to};
-use crate::items::{Answer, read_addresses};
-use crate::transactions::{TransactionRead, no_transaction, read_transaction, read_transactions};
-use chain::{Block, Transaction, zero_number, zero_transaction};
+use crate::fields::{COUNT_WIDTH, Fault, up_to};
+use crate::items::{Answer, Item, Read, read_address, read_items};
+use crate::transactions::{TransactionRead, read_transaction};
+use chain::{Block, Transaction, zero_transaction};
 use rules::{MOST_OWN, MOST_TRANSACTIONS};
 
-// The kinds of rows.
+// The kinds of rows, by document 01's numbers: a row's kind decides which body rule applies, any other number is refused.
 pub(crate) const OWN_KIND: u8 = 1;
 
 pub(crate) const BLOCK_KIND: u8 = 2;
@@ -21,27 +22,19 @@ pub(crate) const PAY_KIND: u8 = 3;
 
 pub(crate) const BACK_KIND: u8 = 4;
 
-// Own addresses: the first `count` places; the other places are zero.
+// Own addresses: the first `count` places; the other places are zero. `own_struct` and the promises of `read_own` name both.
 #[derive(Clone, Copy)]
 pub struct Own {
     pub addresses: [u32; MOST_OWN],
     pub count: usize,
 }
 
-#[derive(Clone, Copy)]
-pub struct OwnRead {
-    pub answer: Answer,
-    pub own: Own,
-}
+pub type OwnRead = Read<Own>;
 
-#[derive(Clone, Copy)]
-pub struct BlockRead {
-    pub answer: Answer,
-    pub block: Block,
-}
+pub type BlockRead = Read<Block>;
 
-// What a body is, or a fault's place.
-#[derive(Clone, Copy)]
+// What a body is, or a fault's place: by document 01 the list, block or payment stands beside it in a struct.
+#[derive(Clone, Copy, Debug, PartialEq, Eq)]
 pub enum Body {
     Own,
     Block,
@@ -59,133 +52,130 @@ pub struct BodyRead {
     pub payment: Transaction,
 }
 
+// The empty own list; a derived Default's contract has no equation for an array.
 fn zero_own() -> Own
     ensures { result ≡ no_own }
 {
-    let addresses = [0u32; MOST_OWN];
     Own {
-        addresses,
+        addresses: [0; MOST_OWN],
         count: 0,
     }
 }
 
+// The empty block.
 fn zero_block() -> Block
     ensures { result ≡ no_block }
 {
-    let zero = zero_transaction();
-    let transactions = [zero; MOST_TRANSACTIONS];
     Block {
-        transactions,
+        transactions: [zero_transaction(); MOST_TRANSACTIONS],
         count: 0,
     }
 }
 
-// A fault in an own list.
-fn no_own(place: usize) -> OwnRead
-    ensures { result ≡ own_read (fault place) }
+// A list behind its count: the list's places, how many are used, and the next place.
+#[tactic(auto, using(crate::specs::Held::reading_got, crate::specs::Whole::counted_read))]
+fn counted<T: Copy, const N: usize, F: Fn(usize, Option<T>) -> Item<T>>(
+    bytes: &[u8],
+    zero: T,
+    read: F,
+) -> Item<([T; N], usize)>
+    requires { F.IsAlwaysCallable read }
+    ensures { (reader : ItemReader T) →
+        ((at : ℕ) (last : Option T) (r : _) → F.post read at last r → field_read r ≡ reader (before last) bytes.now at) →
+        field_read result ≡ formed (list_and_count N zero) (counted N reader bytes.now 0) }
 {
-    let own = zero_own();
-    OwnRead {
-        answer: Answer::Fault(place),
-        own,
+    let Ok((n, at)) = up_to(bytes, 0, COUNT_WIDTH, N as u64) else {
+        return Err(Fault { place: 0 });
+    };
+    let count = n as usize;
+    let Read {
+        answer,
+        value: items,
+    } = read_items(at, count, zero, read);
+    let next = answer?;
+    Ok(((items, count), next))
+}
+
+// A reading that has to end with its body.
+fn whole<T: Copy>(read: Item<T>, size: usize, zero: T) -> Read<T>
+    ensures { result ≡ read_as (λ x. x) zero (exactly size (field_read read)) }
+{
+    let (value, next) = match read {
+        Ok(taken) => taken,
+        Err(fault) => return Read::fault(fault, zero),
+    };
+    if next != size {
+        return Read::fault(Fault { place: next }, zero);
+    }
+    Read {
+        answer: Ok(next),
+        value,
     }
 }
 
-// A fault in a block.
-fn no_block(place: usize) -> BlockRead
-    ensures { result ≡ block_read (fault place) }
+// An own list from the body's start.
+fn own_list(bytes: &[u8]) -> Item<Own>
+    ensures { field_read result ≡ formed own_struct (read_own bytes.now 0) }
 {
-    let block = zero_block();
-    BlockRead {
-        answer: Answer::Fault(place),
-        block,
-    }
+    let ((addresses, count), next) = counted(bytes, 0, |at, last| read_address(bytes, at, last))?;
+    Ok((Own { addresses, count }, next))
+}
+
+// A block from the body's start.
+fn block(bytes: &[u8]) -> Item<Block>
+    ensures { field_read result ≡ formed block_of (read_block bytes.now 0) }
+{
+    let ((transactions, count), next) = counted(
+        bytes,
+        zero_transaction(),
+        |at, last| read_transaction(bytes, at, last),
+    )?;
+    Ok((
+        Block {
+            transactions,
+            count,
+        },
+        next,
+    ))
 }
 
 // Reads a body as an own list.
+#[tactic(auto, using(crate::specs::Whole::whole_read, crate::specs::Whole::own_exact))]
 pub fn read_own(bytes: &[u8]) -> OwnRead
     ensures { result ≡ own_read (own_reading (length bytes.now) (read_body own_kind bytes.now)) }
 {
-    let most = MOST_OWN as u64;
-    let Field::Number(n, at) = up_to(bytes, 0, COUNT_WIDTH, most) else {
-        return no_own(0);
-    };
-    let count = n as usize;
-    let read = read_addresses(bytes, at, count);
-    let answer = read.answer;
-    let Answer::Read(next) = answer else {
-        let own = zero_own();
-        return OwnRead { answer, own };
-    };
-    if next != bytes.len() {
-        return no_own(next);
-    }
-    let addresses = read.addresses;
-    let own = Own { addresses, count };
-    OwnRead {
-        answer: Answer::Read(next),
-        own,
-    }
+    whole(own_list(bytes), bytes.len(), zero_own())
 }
 
 // Reads a body as a block.
+#[tactic(auto, using(crate::specs::Whole::whole_read, crate::specs::Whole::block_exact))]
 pub fn read_block(bytes: &[u8]) -> BlockRead
     ensures { result ≡ block_read (block_reading (length bytes.now) (read_body block_kind bytes.now)) }
 {
-    let size = bytes.len();
-    let most = MOST_TRANSACTIONS as u64;
-    let Field::Number(n, at) = up_to(bytes, 0, COUNT_WIDTH, most) else {
-        return no_block(0);
-    };
-    let count = n as usize;
-    let read = read_transactions(bytes, at, count);
-    let answer = read.answer;
-    let Answer::Read(next) = answer else {
-        let block = zero_block();
-        return BlockRead { answer, block };
-    };
-    if next != size {
-        return no_block(next);
-    }
-    let transactions = read.transactions;
-    let block = Block {
-        transactions,
-        count,
-    };
-    BlockRead {
-        answer: Answer::Read(next),
-        block,
-    }
+    whole(block(bytes), bytes.len(), zero_block())
 }
 
 // Reads a body as a payment.
+#[tactic(auto, using(crate::specs::Whole::whole_read, crate::specs::Whole::pay_exact))]
 pub fn read_payment(bytes: &[u8]) -> TransactionRead
     ensures { result ≡ transaction_read (pay_reading (length bytes.now) (read_body pay_kind bytes.now)) }
 {
-    let zero = zero_number();
-    let read = read_transaction(bytes, 0, true, zero);
-    let answer = read.answer;
-    let Answer::Read(next) = answer else {
-        return read;
-    };
-    if next != bytes.len() {
-        return no_transaction(next);
-    }
-    read
+    whole(
+        read_transaction(bytes, 0, None),
+        bytes.len(),
+        zero_transaction(),
+    )
 }
 
 // No value beside it: a rollback, or a fault.
 fn nothing_beside(body: Body) -> BodyRead
     ensures { result ≡ bare body }
 {
-    let own = zero_own();
-    let block = zero_block();
-    let payment = zero_transaction();
     BodyRead {
         body,
-        own,
-        block,
-        payment,
+        own: zero_own(),
+        block: zero_block(),
+        payment: zero_transaction(),
     }
 }
 
@@ -194,73 +184,58 @@ fn fault_or(answer: Answer, body: Body) -> Body
     ensures { result ≡ fault_or answer body }
 {
     match answer {
-        Answer::Read(_) => body,
-        Answer::Fault(place) => Body::Fault(place),
+        Ok(_) => body,
+        Err(fault) => Body::Fault(fault.place),
     }
 }
 
+#[tactic(auto, using(crate::specs::Whole::own_shown_lem))]
 fn own_body(bytes: &[u8]) -> BodyRead
     ensures { result ≡ body_read (read_body own_kind bytes.now) }
 {
-    let read = read_own(bytes);
-    let answer = read.answer;
-    let body = fault_or(answer, Body::Own);
-    let own = read.own;
-    let block = zero_block();
-    let payment = zero_transaction();
-    BodyRead {
-        body,
-        own,
-        block,
-        payment,
-    }
+    let Read { answer, value: own } = read_own(bytes);
+    let none = nothing_beside(fault_or(answer, Body::Own));
+    BodyRead { own, ..none }
 }
 
+#[tactic(auto, using(crate::specs::Whole::block_shown_lem))]
 fn block_body(bytes: &[u8]) -> BodyRead
     ensures { result ≡ body_read (read_body block_kind bytes.now) }
 {
-    let read = read_block(bytes);
-    let answer = read.answer;
-    let body = fault_or(answer, Body::Block);
-    let own = zero_own();
-    let block = read.block;
-    let payment = zero_transaction();
-    BodyRead {
-        body,
-        own,
-        block,
-        payment,
-    }
+    let Read {
+        answer,
+        value: block,
+    } = read_block(bytes);
+    let none = nothing_beside(fault_or(answer, Body::Block));
+    BodyRead { block, ..none }
 }
 
+#[tactic(auto, using(crate::specs::Whole::pay_shown_lem))]
 fn payment_body(bytes: &[u8]) -> BodyRead
     ensures { result ≡ body_read (read_body pay_kind bytes.now) }
 {
-    let read = read_payment(bytes);
-    let answer = read.answer;
-    let body = fault_or(answer, Body::Payment);
-    let own = zero_own();
-    let block = zero_block();
-    let payment = read.transaction;
-    BodyRead {
-        body,
-        own,
-        block,
-        payment,
-    }
+    let Read {
+        answer,
+        value: payment,
+    } = read_payment(bytes);
+    let none = nothing_beside(fault_or(answer, Body::Payment));
+    BodyRead { payment, ..none }
 }
 
 // A rollback's body is empty.
+#[tactic(auto, using(crate::specs::Whole::back_empty, crate::specs::Whole::back_over))]
 fn rollback_body(bytes: &[u8]) -> BodyRead
     ensures { result ≡ body_read (read_body back_kind bytes.now) }
 {
-    if 0 == bytes.len() {
-        return nothing_beside(Body::Rollback);
+    if bytes.is_empty() {
+        nothing_beside(Body::Rollback)
+    } else {
+        nothing_beside(Body::Fault(0))
     }
-    nothing_beside(Body::Fault(0))
 }
 
 // Reads a body by its row's kind; an unknown kind faults at place 0.
+#[tactic(auto, using(crate::specs::Whole::unknown_kind))]
 pub fn read_body(kind: u8, bytes: &[u8]) -> BodyRead
     ensures { result ≡ body_read (read_body kind bytes.now) }
 {

@@ -3,7 +3,7 @@
 #![tactic(auto)]
 
 pub mod bodies;
-mod fields;
+pub mod fields;
 pub mod items;
 pub mod rows;
 pub mod transactions;

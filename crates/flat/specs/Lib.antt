@@ -1,7 +1,6 @@
 pub mod Flat
-pub mod Inner
 pub mod Slots
 pub mod SeekLaws
+pub mod Searches
 pub mod Sought
-pub mod Halving
 pub mod Told

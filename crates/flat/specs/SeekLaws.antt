@@ -1,6 +1,6 @@
 -- Where a reference stands in a list: the place of the first same one, below the length exactly where there is one, and
 -- the only such place where no two are the same.
-use Rattle.std.specs.Prelude.{ℕ, zero, suc, ◌≤◌, ◌<◌, ◌≡◌, refl, true, false, not, cond, ◌||◌, List, [], ◌∷◌, T, ltb, length, get_or, take}
+use Rattle.std.specs.Prelude.{ℕ, zero, suc, ◌≤◌, ◌<◌, ◌≡◌, refl, true, false, not, cond, ◌||◌, List, map, [], ◌∷◌, T, ltb, length, get_or}
 use Rattle.std.proofs.Common.{sym, ap, subst, ◌∙◌, ⊎_elim, not-suc-le-zero, le_of_suc-le-suc, arith, T_not}
 use Rattle.std.proofs.Math.Dec.{not_T, leb-zero, leb-suc-suc}
 use Rattle.sets.specs.Sets.{has, ascending}
@@ -52,19 +52,6 @@ seek_none r (x ∷ l) t =
     ])
     t
 
--- the first that is the same
-pub seek_first :
-    (r : Reference) (l : List Reference) (j : ℕ) (d : Reference) → j < length l →
-    T (not (has same_reference r (take j l))) → T (same_reference r (get_or l j d)) → seek r l ≡ j
-seek_first r [] j d h n t = absurd (not-suc-le-zero h)
-seek_first r (x ∷ l) zero d h n t = cond_true (same_reference r x) 0 (suc (seek r l)) t
-seek_first r (x ∷ l) (suc j) d h n t =
-    (elim (same_reference r x) as (λ b. T (not (b || has same_reference r (take j l))) → cond b 0 (suc (seek r l)) ≡ suc j) [
-      | true ↦ λ (k : ⊥). absurd k
-      | false ↦ λ (k : T (not (has same_reference r (take j l)))). ap suc (seek_first r l j d (le_of_suc-le-suc h) k t)
-    ])
-    n
-
 -- in an ascending list there is one such place
 pub seek_one :
     (r : Reference) (l : List Reference) (j : ℕ) (d : Reference) → T (ascending before_reference l) → j < length l →
@@ -83,3 +70,9 @@ seek_one r (x ∷ l) (suc j) d a h t =
     in
     cond_false (same_reference r x) 0 (suc (seek r l)) other
     ∙ ap suc (seek_one r l j d (ascending_tail before_reference x l a) k t)
+
+-- of each reference, whether its place is inside the list says whether the list has it
+pub found_same :
+    (a b : List Reference) → map (λ p. ltb p (length b)) (map (λ x. seek x b) a) ≡ map (λ x. has same_reference x b) a
+found_same [] b = refl
+found_same (x ∷ a) b = λ i. seek_found x b i ∷ found_same a b i

@@ -1,6 +1,6 @@
 -- The loop over the rows: after the first so many the text holds their lines, and the wallet is the rules'.
-use Rattle.std.specs.Prelude.{ℕ, zero, suc, ◌+◌, ◌-◌, ◌≤◌, ◌<◌, ◌≡◌, List, [], ◌++◌, T, length, take, drop}
-use Rattle.std.proofs.Common.{sym, ap, ap₂, subst, ◌∙◌, append-nil, add-zero, add-suc, add-one, arith, length-append, take-append-drop}
+use Rattle.std.specs.Prelude.{ℕ, suc, ◌+◌, ◌<◌, ◌≡◌, List, [], ◌++◌, T}
+use Rattle.std.proofs.Common.{sym, ap, ap₂, refl, ◌∙◌, add-one, arith}
 use Rattle.rules.specs.Chain.{shaped_own}
 use Rattle.rules.specs.States as States
 use Rattle.rules.specs.Steps as Steps
@@ -15,50 +15,24 @@ use Rattle.wallet.specs.Contract.{viewed, is_sound, Reads}
 use Rattle.wallet.specs.ContractLaws.{opened_sound}
 use Rattle.lines.specs.declared.Line.{Line}
 use Rattle.lines.specs.Sheet.{line_text, event_step, event_line}
-use Rattle.lines.specs.Placed.{Wrote, wrote_length, wrote_room, wrote_then}
+use Rattle.fixed.specs.declared.Filled.{Filled}
+use Rattle.fixed.specs.Filled.{with_items}
+use Rattle.lines.specs.Text.{put_then}
 use Rattle.lines.specs.Events.{Told, step_of}
 use Rattle.lines.specs.Rows.{text_to, held_after, next_step, next_line, text_more, held_more}
 
 -- After i rows: the wallet is sound and the rules', and their lines stand in the text.
-pub record Along (feed t₀ : List ℕ) (start count : ℕ) (t : List ℕ) (w : Wallet) (at i : ℕ) : Type 0 where
-  pub within : i ≤ count
+pub record Along {n : ℕ} (feed : List ℕ) (old text : Filled ℕ n) (w : Wallet) (i : ℕ) : Type 0 where
   pub is_good : T (is_sound w)
   pub held : viewed w ≡ held_after feed i
-  pub wrote : Wrote t₀ start (text_to feed i) t at
+  pub wrote : text ≡ with_items old (text_to feed i)
 
 -- before the first row
-nothing_wrote : (t : List ℕ) (at : ℕ) → Wrote t at [] t at
-nothing_wrote t at = (
-  sym (add-zero at),
-  sym
-      (ap (λ (n : ℕ). take at t ++ [] ++ drop n t) (add-zero at)
-      ∙ ap (λ (l : List ℕ). l ++ drop at t) (append-nil (take at t))
-      ∙ take-append-drop at t),
-)
-
-pub along_start : (feed t : List ℕ) (start count : ℕ) (w : Wallet) → T (is_sound w) × (viewed w ≡ States.opened []) →
-    Along feed t start count t w start 0
+pub along_start :
+    {n : ℕ} (feed : List ℕ) (text : Filled ℕ n) (w : Wallet) → T (is_sound w) × (viewed w ≡ States.opened []) →
+    Along feed text text w 0
 unfolding text_to held_after
-along_start feed t start count w h =
-    record { within = omega arith; is_good = h.0; held = h.1; wrote = nothing_wrote t start }
-
--- ── room
-
-grows : (feed : List ℕ) (i k : ℕ) → length (text_to feed i) ≤ length (text_to feed (i + k))
-grows feed i zero = subst (λ (n : ℕ). length (text_to feed i) ≤ length (text_to feed n)) (sym (add-zero i)) (omega arith)
-grows feed i (suc k) =
-    subst (λ (n : ℕ). length (text_to feed i) ≤ length (text_to feed n)) (sym (add-suc i k))
-    (omega (
-      arith,
-      grows feed i k,
-      ap (λ (l : List ℕ). length l) (text_more feed (i + k)),
-      length-append (text_to feed (i + k)) (line_text (next_line feed (i + k))),
-    ))
-
-pub text_least : (feed : List ℕ) (i n : ℕ) → i ≤ n → length (text_to feed i) ≤ length (text_to feed n)
-text_least feed i n h =
-    let e : i + (n - i) ≡ n = omega arith in
-    subst (λ (m : ℕ). length (text_to feed i) ≤ length (text_to feed m)) e (grows feed i (n - i))
+along_start feed text w h = record { is_good = h.0; held = h.1; wrote = refl }
 
 -- ── a turn
 
@@ -70,10 +44,8 @@ step_one r s a =
     λ i. record { wallet = w i; answer = n i; movement = m i }
 
 module _
-    (feed t₀ : List ℕ) (start count : ℕ) (t : List ℕ) (w : Wallet) (at i : ℕ)
-    (formed : T (well_formed feed)) (counted : count ≡ count_in feed)
-    (room : start + length (text_to feed (count_in feed)) ≤ length t₀)
-    (a : Along feed t₀ start count t w at i) (h : i < count)
+    {n : ℕ} (feed : List ℕ) (old text : Filled ℕ n) (w : Wallet) (i : ℕ)
+    (formed : T (well_formed feed)) (a : Along feed old text w i) (h : i < count_in feed)
     (kind : ℕ) (k : kind ≡ kind_in feed (i + 1))
     (step : Step) (s : Told (event_step (viewed w) (read_body kind (body_in feed (i + 1)))) step) where
   found : (row_kind feed (suc i) ≡ kind_in feed (suc i)) × (row_body feed (suc i) ≡ body_in feed (suc i))
@@ -97,40 +69,16 @@ module _
         ∙ ap (λ (n : ℕ). event_line n kind (step_of step)) (add-one i)
         ∙ ap₂ (λ (n : ℕ) (x : Steps.Step). event_line (suc i) n x) kind_is step_is
 
-    fits : start + length (text_to feed i ++ line_text line) ≤ length t₀
-    fits =
-        let e = ap (λ (b : List ℕ). length b) (text_more feed i) in
-        let f = ap (λ (x : Line). length (text_to feed i ++ line_text x)) line_is in
-        omega (arith, e, f, text_least feed (suc i) (count_in feed) (omega arith))
-
-    pub turn_room : at + length (line_text line) ≤ length t
-    turn_room = wrote_room t₀ start (text_to feed i) t at a.wrote (line_text line) fits
-
-    pub turn : (u : List ℕ) (next : ℕ) → Wrote t at (line_text line) u next → Along feed t₀ start count u step.wallet next (i + 1)
-    turn u next v =
+    pub turn : (next : Filled ℕ n) → next ≡ with_items text (line_text line) → Along feed old next step.wallet (i + 1)
+    turn next v =
         record {
-          within = omega arith;
           is_good = s.is_good;
           held = ap (λ (x : Steps.Step). x.wallet) step_is ∙ sym (held_more feed i) ∙ ap (held_after feed) (sym (add-one i));
           wrote =
-              subst (λ (b : List ℕ). Wrote t₀ start b u next)
-              (ap (λ (x : Line). text_to feed i ++ line_text x) line_is ∙ sym (text_more feed i) ∙ ap (text_to feed) (sym (add-one i)))
-              (wrote_then t₀ start (text_to feed i) t at a.wrote (line_text line) u next fits v);
+              put_then old text next (text_to feed i) (line_text line) a.wrote v
+              ∙ ap (with_items old)
+              (ap (λ (x : Line). text_to feed i ++ line_text x) line_is ∙ sym (text_more feed i) ∙ ap (text_to feed) (sym (add-one i)));
         }
-
--- ── the end
-
-module _ (feed t₀ : List ℕ) (start count : ℕ) (t : List ℕ) (w : Wallet) (at i : ℕ)
-    (counted : count ≡ count_in feed) (a : Along feed t₀ start count t w at i) where
-  pub along_end : count ≤ i → Wrote t₀ start (text_to feed (count_in feed)) t at
-  along_end h =
-      let e : i ≡ count_in feed = omega (arith, a.within) in
-      subst (λ (n : ℕ). Wrote t₀ start (text_to feed n) t at) e a.wrote
-
-  pub along_length : start + length (text_to feed (count_in feed)) ≤ length t₀ → length t ≡ length t₀
-  along_length room =
-      wrote_length t₀ start (text_to feed i) t at a.wrote
-      (omega (arith, text_least feed i (count_in feed) (omega (arith, a.within))))
 
 -- ── before the first event
 

@@ -17,7 +17,6 @@ use Rattle.feed.specs.Bodies.{body_read}
 use Rattle.feed.specs.Promises.{read_body_good, ordinal}
 use Rattle.feed.specs.declared.bodies.Own.{Own}
 use Rattle.feed.specs.declared.bodies.BodyRead.{BodyRead}
-use Rattle.feed.specs.declared.bodies.Body.{Body}
 use Rattle.feed.specs.declared.bodies.Body.TheVariants as Is
 use Rattle.wallet.specs.declared.Wallet.{Wallet}
 use Rattle.wallet.specs.declared.Step.{Step}

@@ -1,7 +1,5 @@
 pub mod Sheet
 pub mod Readings
-pub mod Placed
-pub mod Signed
 pub mod Decimals
 pub mod Text
 pub mod Events

@@ -1,5 +1,5 @@
 // Events: a row's body read and stepped, and the line that tells of it.
-ghost use Rattle.std.specs.Prelude.{◌≡◌, [], ◌+◌, ◌≤◌, T, length, take};
+ghost use Rattle.std.specs.Prelude.{◌≡◌, [], T, take};
 ghost use Rattle.format.specs.Bodies.{read_body};
 ghost use Rattle.format.specs.Feed.{body_in, count_in, well_formed};
 ghost use Rattle.wallet.specs.Contract.{Reads, is_sound, viewed};
@@ -7,11 +7,11 @@ ghost use Rattle.rules.specs.States as States;
 ghost use Rattle.rules.specs.Steps.{opening};
 ghost use Rattle.lines.specs.Sheet.{event_line, event_step};
 ghost use Rattle.lines.specs.Events.{OwnFits, Told, step_of};
-ghost use Rattle.lines.specs.Placed.{placed};
+ghost use Rattle.fixed.specs.Filled.{with_items};
 ghost use Rattle.lines.specs.Rows.{text_to};
 
-use crate::Line;
 use crate::text::put_line;
+use crate::{Line, Text};
 use feed::bodies::{Body, Own};
 use minimum::balances;
 use wallet::{Step, Wallet};
@@ -21,9 +21,7 @@ fn opened(own: Own) -> Step
     requires { OwnFits own }
     ensures { Reads result (opening (take own.count own.addresses)) }
 {
-    let addresses = own.addresses;
-    let count = own.count;
-    Wallet::open(&addresses[..count])
+    Wallet::open(&own.addresses[..own.count])
 }
 
 // An event's step. A fault in its body is answer 1: the wallet as it was, and movement 0.
@@ -32,20 +30,10 @@ fn event(w: Wallet, kind: u8, bytes: &[u8]) -> Step
     ensures { Told (event_step (viewed w) (read_body kind bytes.now)) result }
 {
     let read = feed::bodies::read_body(kind, bytes);
-    let body = read.body;
-    match body {
-        Body::Own => {
-            let own = read.own;
-            opened(own)
-        }
-        Body::Block => {
-            let b = read.block;
-            w.block(b)
-        }
-        Body::Payment => {
-            let t = read.payment;
-            w.pay(t)
-        }
+    match read.body {
+        Body::Own => opened(read.own),
+        Body::Block => w.block(read.block),
+        Body::Payment => w.pay(read.payment),
         Body::Rollback => w.roll_back(),
         Body::Fault(_) => Step {
             wallet: w,
@@ -60,8 +48,7 @@ pub(crate) fn row_step(feed: &[u8], n: usize, kind: u8, w: Wallet) -> Step
     requires { T (is_sound w) }
     ensures { Told (event_step (viewed w) (read_body kind (body_in feed.now n))) result }
 {
-    let body = feed::rows::body_in(feed, n);
-    event(w, kind, body)
+    event(w, kind, feed::rows::body_in(feed, n))
 }
 
 // The line of an event: the balances are those after it.
@@ -69,8 +56,7 @@ pub(crate) fn line_of(row: usize, kind: u8, step: Step) -> Line
     requires { T (is_sound step.wallet) }
     ensures { result ≡ event_line row kind (step_of step) }
 {
-    let w = step.wallet;
-    let b = balances(w);
+    let b = balances(step.wallet);
     Line {
         row,
         kind,
@@ -86,30 +72,20 @@ pub(crate) fn line_of(row: usize, kind: u8, step: Step) -> Line
 fn unopened() -> Wallet
     ensures { T (is_sound result) × (viewed result ≡ States.opened []) }
 {
-    let none = [0u32; 1];
-    let step = Wallet::open(&none[..0]);
-    step.wallet
+    Wallet::open(&[]).wallet
 }
 
 // The lines of a feed that was checked, put one behind the other, each on the wallet that the event before it left.
-pub(crate) fn put_events(feed: &[u8], t: &mut [u8], start: usize) -> usize
-    requires t { T (well_formed feed.now) }
-    requires feed_in_bounds { start + length (text_to feed.now (count_in feed.now)) ≤ length t.old }
-    ensures value { result ≡ start + length (text_to feed.now (count_in feed.now)) }
-    ensures t_after { t.new ≡ placed start (text_to feed.now (count_in feed.now)) t.old }
+pub(crate) fn put_events(feed: &[u8], text: &mut Text)
+    requires { T (well_formed feed.now) }
+    ensures { text.new ≡ with_items text.old (text_to feed.now (count_in feed.now)) }
 {
-    let count = feed::rows::count_in(feed);
     let mut w = unopened();
-    let mut at = start;
-    let mut i = 0;
-    while i < count {
+    for i in 0..feed::rows::count_in(feed) {
         let n = i + 1;
         let kind = feed::rows::kind_in(feed, n);
         let step = row_step(feed, n, kind, w);
-        let line = line_of(n, kind, step);
-        at = put_line(t, at, line);
+        put_line(text, line_of(n, kind, step));
         w = step.wallet;
-        i = n;
     }
-    at
 }

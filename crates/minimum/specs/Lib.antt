@@ -8,9 +8,8 @@ pub mod Settling
 pub mod Choices
 pub mod Bringing
 pub mod Standing
-pub mod StandingLaws
+pub mod Takings
 pub mod Rows
-pub mod RowLoops
 pub mod RowsLaws
 pub mod Choosing
 pub mod Walking

@@ -1,139 +1,70 @@
 // The minimum's tables settled: an expected entry that exactly one payment can bring goes into what that payment adds.
-ghost use Rattle.std.specs.Prelude.{cond, not, ◌≡◌, ◌+◌, ◌^◌, ◌≤◌, ◌<◌, length, take};
-ghost use Rattle.std.specs.Int.Count.{count_trailing_zeros};
+ghost use Rattle.std.specs.Prelude.{not, ◌≡◌, ◌≤◌, length};
+ghost use Rattle.fixed.specs.Filled.{filled_of};
 ghost use Rattle.minimum.specs.Inputs.{no_bring};
 ghost use Rattle.minimum.specs.Settling.{SettleFit};
-ghost use Rattle.rules.specs.Sizes.{most_payments, most_references};
-ghost use Rattle.sets.specs.Fill.{filled};
+ghost use Rattle.rules.specs.Sizes.{most_references};
 ghost use Rattle.sets.specs.Sets.{keep};
-ghost use Rattle.tables.specs.Tables.{is_single, raised, settled_rows};
-ghost use Rattle.walk.specs.Walk.{empty_row};
+ghost use Rattle.tables.specs.Tables.{is_single, settled_rows};
 
-use crate::brings;
-use crate::takings::amount_if;
-use rules::{MOST_PAYMENTS, MOST_REFERENCES};
+use crate::brings::{self, Brings};
+use crate::rows::Rows;
+use fixed::Filled;
+use rules::MOST_PAYMENTS;
 use tables::{Bring, Row};
 
-// Settled tables: the rows, and the brings that are left, the first `count`.
+// Settled tables: the rows, and the brings that are left.
 #[derive(Clone, Copy)]
 pub(crate) struct Settled {
-    pub rows: [Row; MOST_PAYMENTS],
-    pub brings: [Bring; MOST_REFERENCES],
-    pub count: usize,
-}
-
-// The brings that are left.
-#[derive(Clone, Copy)]
-pub(crate) struct Kept {
-    pub brings: [Bring; MOST_REFERENCES],
-    pub count: usize,
+    pub rows: Rows,
+    pub brings: Brings,
 }
 
 // Whether exactly one payment can bring the entry.
-fn is_single(b: Bring) -> bool
-    ensures { result ≡ is_single b }
+#[tactic(auto, unfolding(tables::specs::Tables::is_single))]
+fn is_single(bring: &Bring) -> bool
+    ensures { result ≡ is_single bring.now }
 {
-    let one = u32::count_ones(b.hard) == 1;
-    let soft = b.soft == 0;
-    let owner = b.owner == 0;
-    let maker = b.maker == 0;
-    one & soft & owner & maker
-}
-
-// Which row is raised: that of the one hard mark by the entry's amount, and else the first by nothing.
-fn place_of(single: bool, hard: u32) -> usize
-    ensures { result ≡ cond single (count_trailing_zeros 32 hard) 0 }
-{
-    if single {
-        u32::trailing_zeros(hard) as usize
-    } else {
-        0
-    }
-}
-
-// A row that adds more.
-fn raise(row: Row, amount: u64) -> Row
-    requires { row.adds + amount < 2 ^ 64 }
-    ensures { result ≡ raised amount row }
-{
-    let adds = row.adds + amount;
-    Row {
-        takes: row.takes,
-        adds,
-        clash: row.clash,
-        need: row.need,
-    }
-}
-
-// What a turn of the second loop writes: the bring where it stays.
-fn bring_if(live: bool, bring: Bring) -> Bring
-    ensures { result ≡ cond live bring no_bring }
-{
-    if live { bring } else { brings::no_bring() }
+    bring.hard.count_ones() == 1 && bring.soft == 0 && bring.owner == 0 && bring.maker == 0
 }
 
 // The rows, each raised by what it alone can bring.
-fn settled_rows(
-    rows: [Row; MOST_PAYMENTS],
-    n: usize,
-    brings: [Bring; MOST_REFERENCES],
-    count: usize,
-) -> [Row; MOST_PAYMENTS]
-    requires { SettleFit rows n brings count }
-    ensures { result ≡ filled most_payments empty_row (settled_rows (take count brings) (take n rows)) }
+fn settled_rows(mut rows: [Row; MOST_PAYMENTS], brings: &[Bring]) -> [Row; MOST_PAYMENTS]
+    requires { SettleFit rows brings.now }
+    ensures { result ≡ settled_rows brings.now rows }
 {
-    let mut out = rows;
-    let mut i = 0;
-    while i < count {
-        let bring = brings[i];
-        let single = is_single(bring);
-        let at = place_of(single, bring.hard);
-        let amount = amount_if(single, bring.amount);
-        let row = out[at];
-        out[at] = raise(row, amount);
-        i += 1;
+    for bring in brings {
+        if is_single(bring) {
+            rows[bring.hard.trailing_zeros() as usize].adds += bring.amount;
+        }
     }
-    out
+    rows
 }
 
 // The brings that are not single.
-fn kept_brings(brings: [Bring; MOST_REFERENCES], count: usize) -> Kept
-    requires { count ≤ most_references }
-    ensures { result ≡ record { brings = filled most_references no_bring (keep (λ b. not (is_single b)) (take count brings)); count = length (keep (λ b. not (is_single b)) (take count brings)) } }
+fn kept_brings(brings: &[Bring]) -> Brings
+    requires { length brings.now ≤ most_references }
+    ensures { result ≡ filled_of most_references no_bring (keep (λ b. not (is_single b)) brings.now) }
 {
-    let mut left = [brings::no_bring(); MOST_REFERENCES];
-    let mut k: usize = 0;
-    let mut i = 0;
-    while i < count {
-        let bring = brings[i];
-        let single = is_single(bring);
-        let live = !single;
-        left[k] = bring_if(live, bring);
-        k += live as usize;
-        i += 1;
+    let mut left = Brings::none(brings::no_bring());
+    for bring in brings {
+        if !is_single(bring) {
+            left.push(*bring);
+        }
     }
-    Kept {
-        brings: left,
-        count: k,
-    }
+    left
 }
 
 // Tables settled: rows raised, single brings left out.
-pub(crate) fn settle(
-    rows: [Row; MOST_PAYMENTS],
-    n: usize,
-    brings: [Bring; MOST_REFERENCES],
-    count: usize,
-) -> Settled
-    requires { SettleFit rows n brings count }
-    ensures { result ≡ record { rows = filled most_payments empty_row (settled_rows (take count brings) (take n rows)); brings = filled most_references no_bring (keep (λ b. not (is_single b)) (take count brings)); count = length (keep (λ b. not (is_single b)) (take count brings)) } }
+pub(crate) fn settle(rows: Rows, brings: &[Bring]) -> Settled
+    requires { SettleFit rows.items brings.now }
+    ensures { result ≡ record { rows = record { items = settled_rows brings.now rows.items; count = rows.count }; brings = filled_of most_references no_bring (keep (λ b. not (is_single b)) brings.now) } }
 {
-    let raised = settled_rows(rows, n, brings, count);
-    let kept = kept_brings(brings, count);
-    let left = kept.brings;
     Settled {
-        rows: raised,
-        brings: left,
-        count: kept.count,
+        rows: Filled {
+            items: settled_rows(rows.items, brings),
+            count: rows.count,
+        },
+        brings: kept_brings(brings),
     }
 }

@@ -1,17 +1,23 @@
 // Of each pending payment, where its inputs stand and what they are worth.
-ghost use Rattle.std.specs.Prelude.{cond, ◌≡◌, ◌+◌, ◌≤◌, length};
+ghost use Rattle.std.specs.List.{slice_get};
+ghost use Rattle.std.specs.Option.{is_some, option_map, option_or, unwrap_or};
+ghost use Rattle.std.specs.Prelude.{None, map, ◌≡◌, ◌≤◌, length};
+ghost use Rattle.chain.specs.View.{view_block};
+ghost use Rattle.fixed.specs.Filled.{filled_of};
 ghost use Rattle.flat.specs.Flat.{made_in, refs_in};
-ghost use Rattle.minimum.specs.Inputs.{Fit, state_of, takings_of, no_input, no_taking};
-ghost use Rattle.minimum.specs.Standing.{standing_of, taking_from};
-ghost use Rattle.rules.specs.Sizes.{most_inputs, most_references};
+ghost use Rattle.minimum.specs.Inputs.{input_of, inputs_in, no_input, no_taking, state_of, takings_of};
+ghost use Rattle.minimum.specs.Standing.{stood};
+ghost use Rattle.rules.specs.Chain.{spent};
+ghost use Rattle.rules.specs.Sizes.{most_inputs, most_payments, most_references};
 
-use chain::{Block, Transaction};
+use crate::Sets;
+use fixed::Filled;
 use flat::{Made, Refs};
-use rules::{MOST_INPUTS, MOST_PAYMENTS, MOST_REFERENCES, Reference};
+use rules::{MOST_INPUTS, MOST_PAYMENTS, MOST_REFERENCES, Number, Reference};
 
 // An input: its reference, its worth (0 where it stands nowhere), and whether it stands in the UTxO, in expected, and
 // among the outputs of pending payments.
-#[derive(Clone, Copy)]
+#[derive(Clone, Copy, Default)]
 pub(crate) struct Input {
     pub reference: Reference,
     pub amount: u64,
@@ -20,166 +26,120 @@ pub(crate) struct Input {
     pub made: bool,
 }
 
-// The inputs of a payment: the first `count`.
-#[derive(Clone, Copy)]
-pub(crate) struct Taking {
-    pub inputs: [Input; MOST_INPUTS],
-    pub count: usize,
-}
-
-// Of each of some references, whether it stands in a list of entries and the amount under it there.
-#[derive(Clone, Copy)]
-pub(crate) struct Standing {
-    pub here: [bool; MOST_REFERENCES],
-    pub amounts: [u64; MOST_REFERENCES],
-}
-
-// What unused places hold.
+// What an unused place holds.
 fn no_input() -> Input
     ensures { result ≡ no_input }
 {
-    Input {
-        reference: chain::zero_reference(),
-        amount: 0,
-        utxo: false,
-        expected: false,
-        made: false,
+    Input::default()
+}
+
+// A payment's number and its inputs.
+#[derive(Clone, Copy)]
+pub(crate) struct Taking {
+    pub number: Number,
+    pub inputs: Filled<Input, MOST_INPUTS>,
+}
+
+impl Taking {
+    pub(crate) fn inputs(&self) -> &[Input]
+        ensures inputs { result.now ≡ inputs_in self.now }
+        ensures most { length result.now ≤ most_inputs }
+    {
+        self.inputs.as_slice()
     }
 }
 
-fn no_taking() -> Taking
-    ensures { result ≡ no_taking }
+pub(crate) type Takings = Filled<Taking, MOST_PAYMENTS>;
+
+// Of each of some references the amount under it in a list of entries, if it stands there.
+type Amounts = Filled<Option<u64>, MOST_REFERENCES>;
+
+type Inputs = Filled<Input, MOST_REFERENCES>;
+
+// The amount at a place, if there is an entry.
+fn amount_at(made: &Made, place: usize) -> Option<u64>
+    ensures { result ≡ option_map (λ e. e.amount) (slice_get (made_in made.now) place) }
 {
-    Taking {
-        inputs: [no_input(); MOST_INPUTS],
-        count: 0,
-    }
+    made.as_slice().get(place).map(|entry| entry.amount)
 }
 
-// An amount where it counts, else 0.
-pub(crate) fn amount_if(live: bool, amount: u64) -> u64
-    ensures { result ≡ cond live amount 0 }
+// One search for all of the references.
+fn amounts_of(refs: Refs, made: Made) -> Amounts
+    ensures { result ≡ filled_of most_references None (map (stood (made_in made)) (refs_in refs)) }
 {
-    if live { amount } else { 0 }
-}
-
-// Where some references stand in a list of entries: one search for all of them.
-pub(crate) fn standing_of(refs: Refs, made: Made) -> Standing
-    ensures { result ≡ standing_of (refs_in refs) (made_in made) }
-{
-    let those = flat::made_refs(made);
-    let at = flat::sought(refs, those).at;
-    let stops = those.count;
-    let entries = made.entries;
-    let end = flat::capped(refs.count, MOST_REFERENCES);
-    let mut here = [false; MOST_REFERENCES];
-    let mut amounts = [0u64; MOST_REFERENCES];
-    let mut i = 0;
-    while i < end {
-        let place = at[i];
-        let found = place < stops;
-        let entry = entries[place % MOST_REFERENCES];
-        here[i] = found;
-        amounts[i] = amount_if(found, entry.amount);
-        i += 1;
+    let mut amounts = Amounts::none(None);
+    for place in flat::sought(refs, flat::made_refs(made)).as_slice() {
+        amounts.push(amount_at(&made, *place));
     }
-    Standing { here, amounts }
+    amounts
 }
 
 // The first of the UTxO, expected and the own outputs of pending payments that has an input says what it is worth.
-fn amount_of(utxo: bool, unspent: u64, expected: bool, due: u64, own: u64) -> u64
-    ensures { result ≡ cond utxo unspent (cond expected due own) }
+fn input_of(
+    reference: Reference,
+    utxo: Option<u64>,
+    expected: Option<u64>,
+    own: Option<u64>,
+    made: bool,
+) -> Input
+    ensures { result ≡ record { reference = reference; amount = unwrap_or (option_or (option_or utxo expected) own) 0; utxo = is_some utxo; expected = is_some expected; made = made } }
 {
-    if utxo {
-        return unspent;
+    Input {
+        reference,
+        amount: utxo.or(expected).or(own).unwrap_or(0),
+        utxo: utxo.is_some(),
+        expected: expected.is_some(),
+        made,
     }
-    if expected {
-        return due;
-    }
-    own
 }
 
-// The inputs of a payment, from what stands at the places from `start` on of the searches for all inputs.
-fn taking_of(
-    t: Transaction,
-    start: usize,
-    utxo: &[bool; MOST_REFERENCES],
-    unspent: &[u64; MOST_REFERENCES],
-    expected: &[bool; MOST_REFERENCES],
-    due: &[u64; MOST_REFERENCES],
-    made: &[bool; MOST_REFERENCES],
-    own: &[u64; MOST_REFERENCES],
-) -> Taking
-    requires takes_bound { (start + t.takes ≤ most_references) × (t.takes ≤ most_inputs) }
-    requires utxo_len { (length utxo.now ≡ most_references) × (length unspent.now ≡ most_references) × (length expected.now ≡ most_references) × (length due.now ≡ most_references) × (length made.now ≡ most_references) × (length own.now ≡ most_references) }
-    ensures { result ≡ taking_from t start utxo.now unspent.now expected.now due.now made.now own.now }
+// The inputs of all pending payments, one payment's after another's.
+fn inputs_of(sets: &Sets) -> Inputs
+    ensures { result ≡ filled_of most_references no_input (map (input_of sets.now.own.now (state_of sets.now.utxo sets.now.expected sets.now.pending)) (spent (view_block sets.now.pending))) }
 {
-    let sources = t.inputs;
-    let count = t.takes;
-    let mut inputs = [no_input(); MOST_INPUTS];
-    let mut i: usize = 0;
-    while i < count {
-        let at = start + i;
-        let reference = sources[i];
-        let in_utxo = utxo[at];
-        let in_expected = expected[at];
-        let in_made = made[at];
-        let amount = amount_of(in_utxo, unspent[at], in_expected, due[at], own[at]);
-        let input = Input {
-            reference,
-            amount,
-            utxo: in_utxo,
-            expected: in_expected,
-            made: in_made,
-        };
-        inputs[i] = input;
-        i += 1;
+    let slots = flat::spent_of(sets.pending);
+    let made = flat::made_of(sets.pending);
+    let in_utxo = amounts_of(slots, sets.utxo);
+    let in_expected = amounts_of(slots, sets.expected);
+    let in_own = amounts_of(slots, flat::own_of(made, sets.own));
+    let is_made = flat::found(slots, flat::made_refs(made));
+    let mut inputs = Inputs::none(no_input());
+    for (i, reference) in slots.as_slice().iter().enumerate() {
+        inputs.push(input_of(
+            *reference,
+            in_utxo.items[i],
+            in_expected.items[i],
+            in_own.items[i],
+            is_made.items[i],
+        ));
     }
-    Taking { inputs, count }
+    inputs
 }
 
-// The inputs of all pending payments.
-pub(crate) fn takings(
-    own: &[u32],
-    utxo: Made,
-    expected: Made,
-    pending: Block,
-) -> [Taking; MOST_PAYMENTS]
-    requires { Fit utxo expected pending }
-    ensures { result ≡ takings_of own.now (state_of utxo expected pending) }
+// A payment's inputs in places of their own.
+fn taking_of(number: Number, inputs: &[Input]) -> Taking
+    requires { length inputs.now ≤ most_inputs }
+    ensures { result ≡ record { number = number; inputs = filled_of most_inputs no_input inputs.now } }
 {
-    let slots = flat::spent_of(pending);
-    let made = flat::made_of(pending);
-    let in_utxo = standing_of(slots, utxo);
-    let in_expected = standing_of(slots, expected);
-    let in_made = standing_of(slots, made);
-    let in_own = standing_of(slots, flat::own_of(made, own));
-    let is_unspent = in_utxo.here;
-    let unspent = in_utxo.amounts;
-    let is_due = in_expected.here;
-    let due = in_expected.amounts;
-    let is_made = in_made.here;
-    let owned = in_own.amounts;
-    let transactions = pending.transactions;
-    let count = pending.count;
-    let mut taken = [no_taking(); MOST_PAYMENTS];
-    let mut start: usize = 0;
-    let mut i: usize = 0;
-    while i < count {
-        let t = transactions[i];
-        let taking = taking_of(
-            t,
-            start,
-            &is_unspent,
-            &unspent,
-            &is_due,
-            &due,
-            &is_made,
-            &owned,
-        );
-        taken[i] = taking;
-        start += t.takes;
-        i += 1;
+    let mut places = Filled::none(no_input());
+    places.extend(inputs);
+    Taking {
+        number,
+        inputs: places,
     }
-    taken
+}
+
+// The inputs of each pending payment.
+pub(crate) fn takings(sets: &Sets) -> Takings
+    ensures { result ≡ filled_of most_payments no_taking (takings_of sets.now.own.now (state_of sets.now.utxo sets.now.expected sets.now.pending)) }
+{
+    let inputs = inputs_of(sets);
+    let mut rest = inputs.as_slice();
+    let mut takings = Takings::none(taking_of(chain::zero_number(), &[]));
+    for payment in sets.pending.transactions() {
+        let (these, others) = rest.split_at(payment.inputs().len());
+        takings.push(taking_of(payment.number, these));
+        rest = others;
+    }
+    takings
 }

@@ -1,78 +1,98 @@
 // A wallet struct handed to every step and every query, and how they answer.
 use crate::build::{block_below, transaction_in};
+use crate::line::Line;
 use alike::{no_entries, no_payments, same_wallet};
 use minimum::{Least, ThreeBalances};
 use wallet::{Amount, Listed, Pending, Step, Wallet};
 
-// How many calls answered 9, and how many had nothing else to say: no movement and the same wallet, no amount, no list.
+// What a call answered, and whether it had nothing else to say: no movement and the same wallet, no amount, no list.
 #[derive(Clone, Copy)]
-pub(crate) struct Tally {
-    pub nines: u64,
-    pub still: u64,
+pub(crate) struct Call {
+    answer: u32,
+    still: bool,
 }
 
-fn told(t: Tally, nine: bool, still: bool) -> Tally {
-    Tally {
-        nines: std::num::wrapping_add_u64(t.nines, nine as u64),
-        still: std::num::wrapping_add_u64(t.still, still as u64),
+impl From<Amount> for Call {
+    fn from(came: Amount) -> Call {
+        Call {
+            answer: came.answer,
+            still: came.amount == 0,
+        }
     }
 }
 
-fn of_step(t: Tally, before: Wallet, came: Step) -> Tally {
-    let after = came.wallet;
-    let same = same_wallet(before, after);
-    told(t, came.answer == 9, same & (came.movement == 0))
+impl From<Listed> for Call {
+    fn from(came: Listed) -> Call {
+        Call {
+            answer: came.answer,
+            still: no_entries(came.list),
+        }
+    }
 }
 
-fn of_amount(t: Tally, came: Amount) -> Tally {
-    told(t, came.answer == 9, came.amount == 0)
+impl From<Pending> for Call {
+    fn from(came: Pending) -> Call {
+        Call {
+            answer: came.answer,
+            still: no_payments(came.list),
+        }
+    }
 }
 
-fn of_list(t: Tally, came: Listed) -> Tally {
-    let list = came.list;
-    let none = no_entries(list);
-    told(t, came.answer == 9, none)
+impl From<Least> for Call {
+    fn from(came: Least) -> Call {
+        Call {
+            answer: came.answer,
+            still: came.amount == 0 && came.payments == 0,
+        }
+    }
 }
 
-fn of_pending(t: Tally, came: Pending) -> Tally {
-    let list = came.list;
-    let none = no_payments(list);
-    told(t, came.answer == 9, none)
+impl From<ThreeBalances> for Call {
+    fn from(came: ThreeBalances) -> Call {
+        let nothing = came.available == 0
+            && came.total == 0
+            && came.minimum == 0
+            && came.payments == 0;
+        Call {
+            answer: came.answer,
+            still: nothing,
+        }
+    }
 }
 
-fn of_least(t: Tally, came: Least) -> Tally {
-    told(
-        t,
-        came.answer == 9,
-        (came.amount == 0) & (came.payments == 0),
-    )
+fn of_step(before: Wallet, came: Step) -> Call {
+    Call {
+        answer: came.answer,
+        still: came.movement == 0 && same_wallet(before, came.wallet),
+    }
 }
 
-fn of_balances(t: Tally, came: ThreeBalances) -> Tally {
-    let first = (came.available == 0) & (came.total == 0);
-    let last = (came.minimum == 0) & (came.payments == 0);
-    told(t, came.answer == 9, first & last)
+// How many calls answered 9, and how many had nothing else to say.
+pub(crate) fn nines(calls: &[Call]) -> usize {
+    calls.iter().filter(|call| call.answer == 9).count()
 }
 
-// The three steps, with a block and a payment that the case F takes after its row 6.
-pub(crate) fn steps(w: Wallet) -> Tally {
-    let none = Tally { nines: 0, still: 0 };
-    let block = w.block(block_below(b"block\n  900: 1.0 -> 0=10:5", 0));
-    let pay = w.pay(transaction_in(b"901: 100.1 -> 0=10:40", 0, 1));
-    let back = w.roll_back();
-    of_step(of_step(of_step(none, w, block), w, pay), w, back)
+pub(crate) fn still(calls: &[Call]) -> usize {
+    calls.iter().filter(|call| call.still).count()
 }
 
-// The nine queries.
-pub(crate) fn queries(w: Wallet) -> Tally {
-    let none = Tally { nines: 0, still: 0 };
-    let amounts = of_amount(
-        of_amount(of_amount(none, w.available()), w.total()),
-        w.held(),
-    );
-    let unspent = of_list(amounts, w.utxo_list());
-    let expected = of_list(unspent, w.expected_list());
-    let available = of_list(expected, w.available_list());
-    let pending = of_pending(available, w.pending_list());
-    of_balances(of_least(pending, minimum::minimum(w)), minimum::balances(w))
+// The three steps, with a block and a payment that the case F takes after its row 6, and the nine queries.
+pub(crate) fn calls(w: Wallet) -> [Call; 12] {
+    let block = block_below(Line(b"block\n  900: 1.0 -> 0=10:5"));
+    let payment = transaction_in(Line(b"901: 100.1 -> 0=10:40"), 0);
+    [
+        of_step(w, w.block(block)),
+        of_step(w, w.pay(payment)),
+        of_step(w, w.roll_back()),
+        w.available().into(),
+        w.total().into(),
+        w.held().into(),
+        w.utxo_list().into(),
+        w.expected_list().into(),
+        w.available_list().into(),
+        w.pending_list().into(),
+        minimum::minimum(w).into(),
+        minimum::balances(w).into(),
+    ]
 }

@@ -1,116 +1,95 @@
 // The wallet on the desk, the steps that it takes, and the wallets that are kept.
-ghost use Rattle.std.specs.Prelude.{◌≡◌, ◌≤◌, length};
+ghost use Rattle.std.specs.Prelude.{◌<◌};
 
-use crate::build::{address_in, block_below, transaction_in};
+use crate::build::{block_below, transaction_in};
 use crate::checks::check;
 use crate::hand::by_hand;
-use crate::line::{byte_at, seen};
-use crate::say::say_strange;
-use std::io::{Result, Stdout};
+use crate::line::Line;
+use std::io;
 use wallet::{Step, Wallet};
 
 // One own address more than a wallet takes.
 const MOST_NAMED: usize = 33;
 
-// A wallet, and what the last step answered and moved on the wallet before it.
+// How many wallets can be kept.
+const PLACES: usize = 8;
+
+// What came of the last step, the wallet before it, and the wallets that are kept.
 #[derive(Clone, Copy)]
 pub(crate) struct Desk {
-    pub wallet: Wallet,
+    pub last: Step,
     pub before: Wallet,
-    pub answer: u32,
-    pub movement: i64,
+    kept: [Wallet; PLACES],
 }
 
-// A wallet that no step has touched.
-fn holding(w: Wallet) -> Desk {
-    Desk {
-        wallet: w,
-        before: w,
-        answer: 0,
-        movement: 0,
-    }
-}
-
-pub(crate) fn start() -> Desk {
-    let none = [0u32; 1];
-    holding(Wallet::open(&none[..0]).wallet)
-}
-
-fn stepped(before: Wallet, step: Step) -> Desk {
-    let after = step.wallet;
-    Desk {
-        wallet: after,
-        before,
-        answer: step.answer,
-        movement: step.movement,
-    }
-}
-
-// How many own addresses a line names; those behind the most are left out.
-fn named_in(text: &[u8], at: usize) -> usize
-    ensures { result ≤ 33 }
+// The place that a line names; the first for any that there is not.
+fn place_in(line: Line) -> usize
+    ensures { result < 8 }
 {
-    let line = seen(text, at, 0);
-    flat::capped(line.seen, MOST_NAMED)
+    let place = line.number(0) as usize;
+    if place < PLACES { place } else { 0 }
 }
 
-// The own addresses that a line names, and zeros behind them.
-fn own_in(text: &[u8], at: usize) -> [u32; MOST_NAMED]
-    ensures { 33 ≡ length result }
-{
-    let mut own = [0u32; MOST_NAMED];
-    let mut i = 0;
-    while i < MOST_NAMED {
-        own[i] = address_in(text, at, i + 1);
-        i += 1;
+// A wallet with the own addresses that a line names; those behind the most are left out.
+fn opened(line: Line) -> Step {
+    let own = line
+        .numbers::<MOST_NAMED>(0)
+        .map(|n| u32::try_from(n).unwrap_or(0));
+    Wallet::open(&own[..line.count().min(MOST_NAMED)])
+}
+
+// A line that begins with no word that there is.
+fn print_strange(rt: &impl Print, line: Line) -> io::Result<()> {
+    print!(rt; "WRONG: ")?;
+    rt.write_all(line.before(b'\n'))?;
+    println!(rt;)
+}
+
+impl Desk {
+    pub fn start() -> Desk {
+        let last = Wallet::open(&[]);
+        Desk {
+            last,
+            before: last.wallet,
+            kept: [last.wallet; PLACES],
+        }
     }
-    own
-}
 
-fn opened(text: &[u8], at: usize) -> Step {
-    let own = own_in(text, at);
-    let count = named_in(text, at);
-    Wallet::open(&own[..count])
-}
-
-// The step that a line asks for.
-fn taken(w: Wallet, text: &[u8], at: usize) -> Step {
-    match byte_at(text, at) {
-        b'o' => opened(text, at),
-        b'b' => w.block(block_below(text, at)),
-        b'p' => w.pay(transaction_in(text, at, 1)),
-        _ => w.roll_back(),
+    // The wallet kept in the place that a line names.
+    pub fn there(&self, line: Line) -> Wallet {
+        self.kept[place_in(line)]
     }
-}
 
-fn strange(to: Stdout, text: &[u8], at: usize, desk: Desk) -> Result<Desk> {
-    say_strange(to, text, at)?;
-    Ok(desk)
-}
-
-// The desk after a line. `there` is the wallet kept in the place that the line names.
-pub(crate) fn after_line(
-    to: Stdout,
-    text: &[u8],
-    at: usize,
-    desk: Desk,
-    there: Wallet,
-) -> Result<Desk> {
-    let w = desk.wallet;
-    match byte_at(text, at) {
-        b'o' | b'b' | b'p' | b'r' => Ok(stepped(w, taken(w, text, at))),
-        b'f' => Ok(holding(there)),
-        b'w' => Ok(holding(by_hand(w, text, at))),
-        b'?' => check(to, text, at, desk, there),
-        b'k' | b' ' | b'#' | b'\n' => Ok(desk),
-        _ => strange(to, text, at, desk),
+    // A wallet that no step has touched.
+    fn hold(&mut self, w: Wallet) {
+        self.before = w;
+        self.last = Step {
+            wallet: w,
+            answer: 0,
+            movement: 0,
+        };
     }
-}
 
-// The wallet in the place that a line names, after it.
-pub(crate) fn kept_after(text: &[u8], at: usize, desk: Desk, there: Wallet) -> Wallet {
-    if byte_at(text, at) != b'k' {
-        return there;
+    fn take(&mut self, step: Step) {
+        self.before = self.last.wallet;
+        self.last = step;
     }
-    desk.wallet
+
+    // What a line says, by the letter that its word begins with.
+    pub fn follow(&mut self, rt: &impl Print, line: Line) -> io::Result<()> {
+        let w = self.last.wallet;
+        match line.letter(0) {
+            b'o' => self.take(opened(line)),
+            b'b' => self.take(w.block(block_below(line))),
+            b'p' => self.take(w.pay(transaction_in(line, 0))),
+            b'r' => self.take(w.roll_back()),
+            b'k' => self.kept[place_in(line)] = w,
+            b'f' => self.hold(self.there(line)),
+            b'w' => self.hold(by_hand(w, line)),
+            b'?' => check(rt, line, self)?,
+            b' ' | b'#' | b'\n' => {}
+            _ => print_strange(rt, line)?,
+        }
+        Ok(())
+    }
 }

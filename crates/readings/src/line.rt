@@ -1,122 +1,107 @@
 // What stands in a line: its letters, its numbers and its label.
+ghost use Rattle.std.specs.Prelude.{◌<◌, length};
+ghost use Rattle.std.specs.Iterator.{at_most};
 
-const LARGEST: u64 = 18_446_744_073_709_551_615;
-
-// The last number that has room for a further digit.
-const LAST: u64 = 1_844_674_407_370_955_161;
-
-// A line read so far: how many numbers were seen, whether the last may go on, the one that is asked for, how many stand before
-// the arrow and before the semicolon, and whether there was a minus.
+// A line of the cases, and the lines behind it.
 #[derive(Clone, Copy)]
-pub(crate) struct Scan {
-    pub seen: usize,
-    pub inside: bool,
-    pub value: u64,
-    pub arrow: usize,
-    pub semicolon: usize,
-    pub minus: bool,
+pub(crate) struct Line<'a>(pub &'a [u8]);
+
+// The lines of a text, one after another.
+#[derive(Clone, Copy)]
+pub(crate) struct Lines<'a>(pub &'a [u8]);
+
+// The number that digits make. A digit for which it has no room is left out.
+fn value(digits: &[u8]) -> u64 {
+    digits.iter().fold(0u64, |n, digit| {
+        let next = u64::from(digit.wrapping_sub(b'0'));
+        n.checked_mul(10)
+            .and_then(|tens| tens.checked_add(next))
+            .unwrap_or(n)
+    })
 }
 
-// Where a line has a mark, from a place on, or ends.
-pub(crate) fn sought(text: &[u8], at: usize, mark: u8) -> usize {
-    let mut i = at;
-    while i < text.len() {
-        let byte = text[i];
-        if (byte == mark) | (byte == b'\n') {
-            return i;
+// How many numbers a text has. The chain stands in `numbers` too, since a function cannot hand out one with closures.
+fn numbers_in(text: &[u8]) -> usize {
+    text.split(|b| !b.is_ascii_digit())
+        .filter(|digits| !digits.is_empty())
+        .count()
+}
+
+impl<'a> Line<'a> {
+    // The byte in a place, or a line feed behind the end.
+    pub fn letter(self, place: usize) -> u8 {
+        self.0.get(place).copied().unwrap_or(b'\n')
+    }
+
+    // What the line has before a mark: all of it where the mark is missing.
+    pub fn before(self, mark: u8) -> &'a [u8] {
+        match self.0.iter().position(|b| *b == mark || *b == b'\n') {
+            Some(end) => &self.0[..end],
+            None => self.0,
         }
-        i += 1;
     }
-    i
-}
 
-// A place some steps on. The texts are short: none of these sums wraps.
-pub(crate) fn further(at: usize, steps: usize) -> usize {
-    std::num::wrapping_add_usize(at, steps)
-}
-
-// Where the next line begins.
-pub(crate) fn behind(text: &[u8], at: usize) -> usize {
-    further(sought(text, at, b'\n'), 1)
-}
-
-// The byte at a place, or a line feed behind the end.
-pub(crate) fn byte_at(text: &[u8], at: usize) -> u8 {
-    if at < text.len() {
-        return text[at];
-    }
-    b'\n'
-}
-
-// A number with one digit more; as it was where that has no room.
-fn longer(n: u64, digit: u64) -> u64 {
-    if LAST < n {
-        return n;
-    }
-    let tens = n * 10;
-    let room = LARGEST - tens;
-    if room < digit {
-        return n;
-    }
-    tens + digit
-}
-
-// A digit begins the next number or goes on with the last. The first number is 1.
-fn digit_turn(s: Scan, byte: u8, wanted: usize) -> Scan {
-    let fresh = !s.inside;
-    let mut next = s;
-    next.inside = true;
-    next.seen = further(s.seen, fresh as usize);
-    if next.seen == wanted {
-        next.value = longer(s.value, std::num::wrapping_sub_u64(byte as u64, 48));
-    }
-    next
-}
-
-fn sign_turn(s: Scan, byte: u8) -> Scan {
-    let mut next = s;
-    next.inside = false;
-    match byte {
-        b'>' => next.arrow = s.seen,
-        b';' => next.semicolon = s.seen,
-        b'-' => next.minus = true,
-        _ => {}
-    }
-    next
-}
-
-fn turn(s: Scan, byte: u8, wanted: usize) -> Scan {
-    let digit = (b'0' <= byte) & (byte <= b'9');
-    if digit {
-        return digit_turn(s, byte, wanted);
-    }
-    sign_turn(s, byte)
-}
-
-// A line up to its label.
-pub(crate) fn seen(text: &[u8], at: usize, wanted: usize) -> Scan {
-    let mut s = Scan {
-        seen: 0,
-        inside: false,
-        value: 0,
-        arrow: 0,
-        semicolon: 0,
-        minus: false,
-    };
-    let mut i = at;
-    while i < text.len() {
-        let byte = text[i];
-        if (byte == b'|') | (byte == b'\n') {
-            return s;
+    // The lines behind it.
+    pub fn below(self) -> Lines<'a>
+        ensures { 0 < length self.entry.0.now → length result.0.now < length self.entry.0.now }
+    {
+        match self.0.iter().position(|b| *b == b'\n') {
+            Some(end) => Lines(&self.0[end + 1..]),
+            None => Lines(&[]),
         }
-        let next = turn(s, byte, wanted);
-        s = next;
-        i += 1;
     }
-    s
+
+    // The numbers from a place on, up to the label, and 0 for each that is missing. The first number has place 0.
+    pub fn numbers<const N: usize>(self, place: usize) -> [u64; N] {
+        let mut numbers = [0; N];
+        let digits = self
+            .before(b'|')
+            .split(|b| !b.is_ascii_digit())
+            .filter(|digits| !digits.is_empty());
+        for (number, digits) in numbers.iter_mut().zip(digits.skip(place)) {
+            *number = value(digits);
+        }
+        numbers
+    }
+
+    pub fn number(self, place: usize) -> u64 {
+        let [number] = self.numbers::<1>(place);
+        number
+    }
+
+    pub fn count(self) -> usize {
+        numbers_in(self.before(b'|'))
+    }
+
+    // How many numbers stand before the last such sign, where any do.
+    pub fn ahead(self, sign: u8) -> Option<usize> {
+        let text = self.before(b'|');
+        let end = text.iter().rposition(|b| *b == sign)?;
+        Some(numbers_in(&text[..end])).filter(|n| 0 < *n)
+    }
+
+    pub fn has_minus(self) -> bool {
+        self.before(b'|').contains(&b'-')
+    }
+
+    // What stands behind the bar and a space.
+    pub fn label(self) -> &'a [u8] {
+        let behind = self.before(b'\n').splitn(2, |b| *b == b'|').nth(1);
+        behind.and_then(|label| label.get(1..)).unwrap_or(&[])
+    }
 }
 
-// A line's number: the first is 1, and one that is not there is 0.
-pub(crate) fn number(text: &[u8], at: usize, wanted: usize) -> u64 {
-    seen(text, at, wanted).value
+impl<'a> Iterator for Lines<'a> {
+    type Item = Line<'a>;
+
+    ghost remaining = { λ s. at_most (length s.0.now) };
+
+    fn next(&mut self) -> Option<Line<'a>> {
+        if self.0.is_empty() {
+            return None;
+        }
+        let line = Line(self.0);
+        *self = line.below();
+        Some(line)
+    }
 }

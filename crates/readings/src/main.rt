@@ -14,10 +14,10 @@
 // The first letter of a word decides; the others are for the reader.
 #![tactic(auto)]
 
-ghost use Rattle.std.specs.Prelude.{◌≡◌, ◌<◌, ◌≤◌, IfOk, length};
-
-use line::behind;
-use std::io::{Read, Result, Stdin, Stdout};
+use desk::Desk;
+use line::Lines;
+use std::io;
+use std::io::Read;
 
 mod build;
 mod calls;
@@ -25,69 +25,22 @@ mod checks;
 mod desk;
 mod hand;
 mod line;
-mod say;
 
 const MOST_INPUT: usize = 65_536;
 
-// How many wallets can be kept.
-const PLACES: usize = 8;
-
-// The `ensures` gives the length, which lending the array as a slice needs.
-fn room() -> [u8; MOST_INPUT]
-    ensures { 65536 ≡ length result }
-{
-    [0; MOST_INPUT]
-}
-
-// The place that a line names; the first for any that there is not.
-fn place_in(text: &[u8], at: usize) -> usize
-    ensures { result < 8 }
-{
-    let place = build::count_in(text, at, 1);
-    if place < PLACES {
-        return place;
-    }
-    0
-}
-
 // All lines, one after another, each on what the one before it left.
-fn run(to: Stdout, text: &[u8]) -> Result<()> {
-    let mut desk = desk::start();
-    let first = desk.wallet;
-    let mut kept = [first; PLACES];
-    let mut i = 0;
-    while i < text.len() {
-        let place = place_in(text, i);
-        let next = desk::after_line(to, text, i, desk, kept[place])?;
-        desk = next;
-        kept[place] = desk::kept_after(text, i, desk, kept[place]);
-        let line = behind(text, i);
-        if line <= i {
-            return Ok(());
-        }
-        i = line;
+fn run(rt: &impl Print, text: &[u8]) -> io::Result<()> {
+    let mut desk = Desk::start();
+    for line in Lines(text) {
+        desk.follow(rt, line)?;
     }
     Ok(())
 }
 
-// Reads until the buffer is full or the input ends, and answers with how many bytes it put at the buffer's start.
-fn read_full(input: Stdin, buffer: &mut [u8]) -> Result<usize>
-    ensures { IfOk result (λ n. n ≤ length buffer.new) }
-{
-    let mut from = input;
-    let mut done = 0;
-    while done < buffer.len() {
-        let n = from.read(&mut buffer[done..])?;
-        if n == 0 {
-            break;
-        }
-        done += n;
-    }
-    Ok(done)
-}
-
-fn main(rt: HostRuntime) -> Result<()> {
-    let mut input = room();
-    let n = read_full(rt.stdin(), &mut input)?;
-    run(rt.stdout(), &input[..n])
+fn main(rt: HostRuntime) -> io::Result<()> {
+    let mut buffer = [0u8; MOST_INPUT];
+    let mut input = rt.stdin().take(MOST_INPUT as u64);
+    // never more than the buffer holds, which no clause of `copy` says
+    let n = io::copy(&mut input, &mut &mut buffer[..])? as usize;
+    run(&rt, &buffer[..n.min(MOST_INPUT)])
 }

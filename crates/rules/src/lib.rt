@@ -2,21 +2,21 @@
 // the rules themselves are in specs/.
 #![tactic(auto)]
 
-// A transaction number. Nothing but its own two tests, same_number and before_number, looks inside.
-#[derive(Clone, Copy)]
+// A transaction number. Nothing but its own equality and order, same_number and before_number, looks inside.
+#[derive(Clone, Copy, Debug, Default, PartialEq, Eq, PartialOrd, Ord)]
 pub struct Number {
     pub serial: u64,
 }
 
-// Which output of which transaction.
-#[derive(Clone, Copy)]
+// Which output of which transaction. References ascend by number, then index.
+#[derive(Clone, Copy, Debug, Default, PartialEq, Eq, PartialOrd, Ord)]
 pub struct Reference {
     pub number: Number,
     pub index: u16,
 }
 
 // What a transaction pays out: its place among the outputs, to whom, and how many lovelace.
-#[derive(Clone, Copy)]
+#[derive(Clone, Copy, Debug, Default, PartialEq, Eq)]
 pub struct Output {
     pub index: u16,
     pub address: u32,
@@ -24,7 +24,7 @@ pub struct Output {
 }
 
 // An output that stands in a set, under its reference.
-#[derive(Clone, Copy)]
+#[derive(Clone, Copy, Debug, Default, PartialEq, Eq)]
 pub struct Entry {
     pub reference: Reference,
     pub address: u32,

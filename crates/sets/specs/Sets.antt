@@ -1,6 +1,7 @@
 -- Lists used as sets: the few words in which the rules are written.
 -- A test is a Boolean function. `same` says when two members count as one, `before` gives a set its one order.
 use Rattle.std.specs.Prelude.{ℕ, ◌+◌, min, Bool, true, false, not, cond, ◌&&◌, ◌||◌, List, [], ◌∷◌, ◌++◌, map}
+use Rattle.std.specs.List.{list_any, list_all, filter, flat_map}
 
 -- every test of a list holds
 abbrev pub every : List Bool → Bool
@@ -14,18 +15,16 @@ least_of (n ∷ []) = n
 least_of (n ∷ m ∷ l) = min n (least_of (m ∷ l))
 
 module _ {A : Type 0} where
+  -- a test holds of one member, or of every member
   abbrev pub any : (A → Bool) → List A → Bool
-  any p [] = false
-  any p (x ∷ l) = p x || any p l
+  any p l = list_any p l
 
   abbrev pub all : (A → Bool) → List A → Bool
-  all p [] = true
-  all p (x ∷ l) = p x && all p l
+  all p l = list_all p l
 
   -- the members of which a test holds
   abbrev pub keep : (A → Bool) → List A → List A
-  keep p [] = []
-  keep p (x ∷ l) = let rest = keep p l in cond (p x) (x ∷ rest) rest
+  keep p l = filter p l
 
   -- the sum of a number over all members
   abbrev pub total : (A → ℕ) → List A → ℕ
@@ -81,5 +80,4 @@ module _ {A : Type 0} where
 module _ {A B : Type 0} where
   -- the lists of all members, one after another
   abbrev pub gather : (A → List B) → List A → List B
-  gather f [] = []
-  gather f (x ∷ l) = f x ++ gather f l
+  gather f l = flat_map f l

@@ -7,6 +7,7 @@ pub mod Opened
 pub mod PoolBooked
 pub mod Moved
 pub mod Sums
+pub mod Refusals
 pub mod Answers
 pub mod Found
 pub mod StepLaws

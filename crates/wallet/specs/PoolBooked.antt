@@ -1,5 +1,5 @@
 -- The pool after a step, put together from the lists that the code lays flat, is the booked pool.
-use Rattle.std.specs.Prelude.{ℕ, ◌+◌, ◌-◌, ◌*◌, ◌≤◌, min, ◌≡◌, refl, Bool, true, false, not, cond, List, T, ltb, length, take}
+use Rattle.std.specs.Prelude.{Option, Some, None, unwrap_or, ℕ, ◌+◌, ◌-◌, ◌*◌, ◌≤◌, min, ◌≡◌, refl, Bool, true, false, not, cond, List, T, ltb, length, take}
 use Rattle.std.proofs.Common.{sym, ap, ap₂, subst, ◌∙◌, take_all}
 use Rattle.sets.specs.Sets.{keep}
 use Rattle.sets.specs.Tests.{cond_true}
@@ -19,15 +19,14 @@ use Rattle.pool.specs.Good.{no_held, good}
 use Rattle.pool.specs.LayoutLaws.{no_held_lem, good_layout, entries_counted}
 use Rattle.pool.specs.Book.{zero_held, entries_after_block, entries_after_rollback, payments_after_block, payments_after_payment, payments_after_rollback, book_block, book_payment, book_rollback}
 use Rattle.pool.specs.BlockEntries.{entries_booked, payments_booked}
-use Rattle.flat.specs.declared.Refs.{Refs}
-use Rattle.flat.specs.declared.Made.{Made}
+use Rattle.flat.specs.Flat.{Refs}
+use Rattle.flat.specs.Flat.{Made}
 use Rattle.flat.specs.Flat.{refs_of, made_of, refs_in, made_in}
 use Rattle.flat.specs.Told.{refs_back, made_back}
-use Rattle.booking.specs.declared.Kept.{Kept}
-use Rattle.booking.specs.declared.Merged.{Merged}
-use Rattle.booking.specs.declared.Paying.{Paying}
+use Rattle.booking.specs.Lists.{Kept}
+use Rattle.booking.specs.Lists.{Merged}
+use Rattle.booking.specs.Lists.{Paying}
 use Rattle.booking.specs.Lists.{kept_of, merged_of, paying_of, merged_in}
-use Rattle.wallet.specs.declared.bookings.Next.{Next}
 
 -- a pool with other entries, payments and states below
 abbrev pub pool_with : Pool → ℕ → List Held → ℕ → List Payment → ℕ → Pool
@@ -54,7 +53,7 @@ entries_filled w g =
 pub payment_pool :
     (w : Pool) (t : Transaction) (q : Paying) → T (good w) → T (ltb w.paying most_payments) →
     q ≡ paying_of (cond (ltb w.paying most_payments) (payments_after_payment t (payments_of w)) (payments_of w)) →
-    pool_with w w.below w.entries w.used q.payments q.count ≡ book_payment w t
+    pool_with w w.below w.entries w.used q.items q.count ≡ book_payment w t
 unfolding book_payment
 payment_pool w t q g r e =
     let all : q ≡ paying_of (payments_after_payment t (payments_of w)) =
@@ -62,7 +61,7 @@ payment_pool w t q g r e =
     in
     let entries = entries_filled w g in
     let used = sym (entries_counted w (good_layout w g)) in
-    λ i. pool_with w w.below (entries i) (used i) (all i).payments (all i).count
+    λ i. pool_with w w.below (entries i) (used i) (all i).items (all i).count
 
 -- ── a rollback
 
@@ -70,9 +69,9 @@ payment_pool w t q g r e =
 pub rollback_pool :
     (w : Pool) (k : Kept) (q : Paying) → k ≡ kept_of (entries_after_rollback (entries_of w)) →
     q ≡ paying_of (payments_after_rollback (payments_of w)) →
-    pool_with w (w.below - 1) k.entries k.count q.payments q.count ≡ book_rollback w
+    pool_with w (w.below - 1) k.items k.count q.items q.count ≡ book_rollback w
 unfolding book_rollback
-rollback_pool w k q e f = λ i. pool_with w (w.below - 1) (e i).entries (e i).count (f i).payments (f i).count
+rollback_pool w k q e f = λ i. pool_with w (w.below - 1) (e i).items (e i).count (f i).items (f i).count
 
 -- ── a block
 
@@ -112,20 +111,19 @@ block_paying w b gone q e f =
 pub block_pool :
     (w : Pool) (b : Block) (below : ℕ) (k : Kept) (q : Paying) → below ≡ min (most_states - 1) (w.below + 1) →
     k ≡ kept_of (entries_booked w (view_block b)) → q ≡ paying_of (payments_booked w (view_block b)) →
-    pool_with w below k.entries k.count q.payments q.count ≡ book_block w (view_block b)
+    pool_with w below k.items k.count q.items q.count ≡ book_block w (view_block b)
 unfolding book_block
-block_pool w b below k q d e f = λ i. pool_with w (d i) (e i).entries (e i).count (f i).payments (f i).count
+block_pool w b below k q d e f = λ i. pool_with w (d i) (e i).items (e i).count (f i).items (f i).count
+
+some_none : (p : Pool) → Some p ≡ None → ⊥
+some_none p e = subst (λ (o : Option Pool). elim o as (λ _. Type 0) [ None ↦ ⊥ | Some q ↦ Unit {0} ]) e tt
 
 -- what the answer after a block says: there was no room
-pub next_full : (room : Bool) (p w : Pool) (next : Next) → next ≡ cond room (record { fits = true; pool = p }) (record { fits = false; pool = w }) → not next.fits ≡ true → room ≡ false
-next_full true p w next e f =
-    let none : ◌≡◌ {A = Bool} true false = sym f ∙ ap (λ (n : Next). not n.fits) e in
-    absurd (subst T none tt)
-next_full false p w next e f = refl
+pub next_full : (room : Bool) (p : Pool) (next : Option Pool) → next ≡ cond room (Some p) None → next ≡ None → room ≡ false
+next_full true p next e f = absurd (some_none p (sym e ∙ f))
+next_full false p next e f = refl
 
 -- or there was, and the pool is booked
-pub next_fits_lem : (room : Bool) (p w : Pool) (next : Next) → next ≡ cond room (record { fits = true; pool = p }) (record { fits = false; pool = w }) → not next.fits ≡ false → (room ≡ true) × (next.pool ≡ p)
-next_fits_lem true p w next e f = (refl, ap (λ (n : Next). n.pool) e)
-next_fits_lem false p w next e f =
-    let none : ◌≡◌ {A = Bool} true false = sym (ap (λ (n : Next). not n.fits) e) ∙ f in
-    absurd (subst T none tt)
+pub next_fits_lem : (room : Bool) (p q : Pool) (next : Option Pool) → next ≡ cond room (Some p) None → next ≡ Some q → (room ≡ true) × (q ≡ p)
+next_fits_lem true p q next e f = (refl, ap (λ (o : Option Pool). unwrap_or o q) (sym f ∙ e))
+next_fits_lem false p q next e f = absurd (some_none q (sym f ∙ e))

@@ -8,7 +8,7 @@ use Rattle.pool.specs.declared.Pool.{Pool}
 use Rattle.pool.specs.View.{view}
 use Rattle.pool.specs.Good.{good}
 use Rattle.pool.specs.LayoutLaws.{good_view}
-use Rattle.flat.specs.declared.Made.{Made}
+use Rattle.flat.specs.Flat.{Made}
 use Rattle.flat.specs.Flat.{made_of, made_in}
 use Rattle.balance.specs.Worth.{worth_within}
 use Rattle.balance.specs.WorthLaws.{worth_flat, worth_most, change_of, available_worth, total_worth}
@@ -28,8 +28,8 @@ free_small w list n g e f = omega (arith, free_worth w list n g e f, available_b
 
 -- two sums over lists laid flat fit 64 bits together, whatever the lists
 pub sums_small :
-    (free change : Made) {m n : ℕ} → length free.entries ≡ most_references → m ≡ worth_within (made_in free) →
-    length change.entries ≡ most_references → n ≡ worth_within (made_in change) → m + n < 2 ^ 64
+    (free change : Made) {m n : ℕ} → length free.items ≡ most_references → m ≡ worth_within (made_in free) →
+    length change.items ≡ most_references → n ≡ worth_within (made_in change) → m + n < 2 ^ 64
 sums_small free change e f g h =
     omega (
       arith,
@@ -39,8 +39,8 @@ sums_small free change e f g h =
       h,
       worth_most (made_in free),
       worth_most (made_in change),
-      length-take free.count free.entries,
-      length-take change.count change.entries,
+      length-take free.count free.items,
+      length-take change.count change.items,
     )
 
 module _ (w : Pool) (free change : Made) (m n : ℕ) (g : T (good w)) (e : free ≡ made_of (available (view w).present))

@@ -2,7 +2,7 @@
 use Rattle.std.specs.Prelude.{ℕ, ◌≡◌, refl, Bool, true, false, cond, [], T}
 use Rattle.std.proofs.Common.{ap, ◌∙◌}
 use Rattle.chain.specs.declared.Block.{Block}
-use Rattle.flat.specs.declared.Made.{Made}
+use Rattle.flat.specs.Flat.{Made}
 use Rattle.flat.specs.Flat.{made_of, block_of}
 use Rattle.wallet.specs.declared.Amount.{Amount}
 use Rattle.wallet.specs.declared.Listed.{Listed}

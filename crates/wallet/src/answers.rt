@@ -1,91 +1,69 @@
-// The answers to a payment, a block and a rollback: one test after another, in the paper's order.
+// Whether a payment, a block or a rollback is refused: one test after another, in the paper's order.
 ghost use Rattle.std.specs.Prelude.{◌≡◌};
 ghost use Rattle.wallet.specs.Answers.{back_answer, block_answer, pay_answer};
+ghost use Rattle.wallet.specs.Refusals.{answer_in};
 
-use crate::tests::{
-    all_found, alone, among, any_found, entries_have, paid_out, payments_have, transactions_agree,
-};
+use crate::refusal::Refusal;
+use crate::tests::{all_among, any_among, number_used, paid_out, payments_agree, worth_taken};
 use chain::{Block, Transaction};
 use pool::Pool;
 use rules::MOST_PAYMENTS;
 
-// A payment's answer: 9, 1, 2, 3, 4, 7 in this order, or 0.
-pub(crate) fn pay_answer(w: Pool, t: Transaction) -> u32
-    ensures { result ≡ pay_answer w t }
+// A payment's: not sound, not shaped, number taken, an input missing, pays too much, no room.
+pub(crate) fn pay_answer(w: Pool, t: Transaction) -> Result<(), Refusal>
+    ensures { answer_in result ≡ pay_answer w t }
 {
-    let sound = audit::good_pool(w);
-    if !sound {
-        return 9;
+    if !audit::good_pool(w) {
+        return Err(Refusal::NotSound);
     }
-    let good = chain::good_transaction(t);
-    if !good {
-        return 1;
+    if !chain::good_transaction(t) {
+        return Err(Refusal::NotShaped);
     }
-    let payments = w.payments;
-    let entries = w.entries;
-    let paid_already = payments_have(payments, w.paying, t.number);
-    let held_already = entries_have(entries, w.used, t.number);
-    if paid_already | held_already {
-        return 2;
+    if number_used(&w, t.number) {
+        return Err(Refusal::NumberTaken);
     }
     let free = balance::available_of(w);
-    let inputs = flat::spent_of(alone(t));
-    let found = flat::sought(inputs, flat::made_refs(free));
-    let present = all_found(found, free.count);
-    if !present {
-        return 3;
+    if !all_among(t.inputs(), free) {
+        return Err(Refusal::InputMissing);
     }
-    let outputs = t.outputs;
-    let out = paid_out(outputs, t.makes);
-    let worth = balance::worth_of(among(free, inputs));
-    if worth < out {
-        return 4;
+    if worth_taken(free, t.inputs()) < paid_out(t.outputs()) {
+        return Err(Refusal::PaysTooMuch);
     }
     if MOST_PAYMENTS <= w.paying {
-        return 7;
+        return Err(Refusal::NoRoom);
     }
-    0
+    Ok(())
 }
 
-// A block's answer before its room is known: 9, 1, 5, 6 in this order, or 0.
-pub(crate) fn block_answer(w: Pool, b: Block) -> u32
-    ensures { result ≡ block_answer w b }
+// A block's, before its room is known: not sound, not shaped, an output unspent already, or one that contradicts.
+pub(crate) fn block_answer(w: Pool, b: Block) -> Result<(), Refusal>
+    ensures { answer_in result ≡ block_answer w b }
 {
-    let sound = audit::good_pool(w);
-    if !sound {
-        return 9;
+    if !audit::good_pool(w) {
+        return Err(Refusal::NotSound);
     }
-    let good = chain::good_block(b);
-    if !good {
-        return 1;
+    if !chain::good_block(b) {
+        return Err(Refusal::NotShaped);
     }
-    let entries = w.entries;
-    let payments = w.payments;
     let made = flat::made_of(b);
-    let unspent = balance::utxo_of(w);
-    let found = flat::sought(flat::made_refs(made), flat::made_refs(unspent));
-    let already = any_found(found, unspent.count);
-    if already {
-        return 5;
+    if any_among(made, balance::utxo_of(w)) {
+        return Err(Refusal::AlreadyUnspent);
     }
-    let outputs_agree = audit::outputs_agree(made, entries, w.used);
-    let payments_agree = transactions_agree(b, payments, w.paying);
-    if !outputs_agree | !payments_agree {
-        return 6;
+    if !audit::outputs_agree(made, &w) | !payments_agree(&w, &b) {
+        return Err(Refusal::Contradicts);
     }
-    0
+    Ok(())
 }
 
-// A rollback's answer: 9, 8 in this order, or 0.
-pub(crate) fn back_answer(w: Pool) -> u32
-    ensures { result ≡ back_answer w }
+// A rollback's: not sound, or no state below.
+pub(crate) fn back_answer(w: Pool) -> Result<(), Refusal>
+    ensures { answer_in result ≡ back_answer w }
 {
-    let sound = audit::good_pool(w);
-    if !sound {
-        return 9;
+    if !audit::good_pool(w) {
+        return Err(Refusal::NotSound);
     }
     if w.below == 0 {
-        return 8;
+        return Err(Refusal::NothingBelow);
     }
-    0
+    Ok(())
 }

@@ -1,7 +1,6 @@
 // The pool after a step, and how far the available balance moved.
-ghost use Rattle.std.specs.Prelude.{cond, false, true, [], ◌≡◌, ◌+◌, ◌-◌, ◌≤◌, min, T, leb, ltb, pos, ◌-ℤ◌, length};
+ghost use Rattle.std.specs.Prelude.{cond, ◌≡◌, ◌+◌, ◌-◌, ◌≤◌, Some, None, min, T, leb, ltb, pos, ◌-ℤ◌, length};
 ghost use Rattle.chain.specs.View.{view_block};
-ghost use Rattle.flat.specs.Flat.{made_of};
 ghost use Rattle.pool.specs.BlockEntries.{entries_booked};
 ghost use Rattle.pool.specs.Book.{book_block, book_payment, book_rollback};
 ghost use Rattle.pool.specs.Good.{good};
@@ -12,39 +11,18 @@ ghost use Rattle.sets.specs.Fill.{filled};
 ghost use Rattle.wallet.specs.Opened.{empty_pool};
 
 use chain::{Block, Transaction};
-use flat::Made;
+use fixed::Filled;
 use pool::{Held, Payment, Pool};
 use rules::{MOST_OWN, MOST_PAYMENTS, MOST_REFERENCES, MOST_STATES};
-
-// A pool after a block, and whether it had room; where it had none, the pool as it was.
-#[derive(Clone, Copy)]
-pub(crate) struct Next {
-    pub fits: bool,
-    pub pool: Pool,
-}
-
-// The empty list.
-pub(crate) fn nothing() -> Made
-    ensures { result ≡ made_of [] }
-{
-    Made {
-        entries: [flat::zero_entry(); MOST_REFERENCES],
-        count: 0,
-    }
-}
 
 // An own list as an array, zeros behind it.
 fn own_array(own: &[u32]) -> [u32; MOST_OWN]
     requires { length own.now ≤ most_own }
     ensures { result ≡ filled most_own 0 own.now }
 {
-    let mut array = [0u32; MOST_OWN];
-    let mut i = 0;
-    while i < own.len() {
-        array[i] = own[i];
-        i += 1;
-    }
-    array
+    let mut list = Filled::none(0);
+    list.extend(own);
+    list.items
 }
 
 // The pool of an opened wallet.
@@ -52,22 +30,13 @@ pub(crate) fn opened(own: &[u32]) -> Pool
     requires { length own.now ≤ most_own }
     ensures { result ≡ empty_pool own.now }
 {
-    let held = Held {
-        entry: flat::zero_entry(),
-        utxo: 0,
-        expected: 0,
-    };
-    let payment = Payment {
-        transaction: chain::zero_transaction(),
-        pending: 0,
-    };
     Pool {
         own: own_array(own),
         owns: own.len(),
         below: 0,
-        entries: [held; MOST_REFERENCES],
+        entries: [Held::default(); MOST_REFERENCES],
         used: 0,
-        payments: [payment; MOST_PAYMENTS],
+        payments: [Payment::default(); MOST_PAYMENTS],
         paying: 0,
     }
 }
@@ -76,48 +45,32 @@ pub(crate) fn opened(own: &[u32]) -> Pool
 fn more_below(below: usize) -> usize
     ensures { result ≡ min (most_states - 1) (below + 1) }
 {
-    if below < MOST_STATES - 1 {
-        below + 1
-    } else {
-        MOST_STATES - 1
-    }
+    below.min(MOST_STATES - 2) + 1
 }
 
-// The pool after a block that the tests have let through.
-pub(crate) fn after_block(w: Pool, b: Block) -> Next
+// The pool after a block that the tests have let through; none where it has no room.
+pub(crate) fn after_block(w: Pool, b: Block) -> Option<Pool>
     requires { T (good w) }
-    ensures { result ≡ cond (leb (length (entries_booked w (view_block b))) most_references) (record { fits = true; pool = book_block w (view_block b) }) (record { fits = false; pool = w }) }
+    ensures { result ≡ cond (leb (length (entries_booked w (view_block b))) most_references) (Some (book_block w (view_block b))) None }
 {
-    let own = w.own;
-    let entries = w.entries;
-    let payments = w.payments;
-    let owns = w.owns;
     let gone = flat::spent_of(b);
-    let made = flat::own_of(flat::made_of(b), &own[..owns]);
-    let merged = booking::entries_after_block(entries, w.used, made, gone);
+    let made = flat::own_of(flat::made_of(b), w.own());
+    let merged = booking::entries_after_block(&w, made, gone);
     if MOST_REFERENCES < merged.count {
-        return Next {
-            fits: false,
-            pool: w,
-        };
+        return None;
     }
     let kept = booking::cut(merged);
-    let paying = booking::payments_after_block(payments, w.paying, gone);
-    let below = more_below(w.below);
-    let next_entries = kept.entries;
-    let next_payments = paying.payments;
-    Next {
-        fits: true,
-        pool: Pool {
-            own,
-            owns,
-            below,
-            entries: next_entries,
-            used: kept.count,
-            payments: next_payments,
-            paying: paying.count,
-        },
-    }
+    let paying = booking::payments_after_block(&w, gone);
+    let entries = kept.items;
+    let payments = paying.items;
+    Some(Pool {
+        below: more_below(w.below),
+        entries,
+        used: kept.count,
+        payments,
+        paying: paying.count,
+        ..w
+    })
 }
 
 // The pool after a payment that the tests have let through.
@@ -125,19 +78,12 @@ pub(crate) fn after_payment(w: Pool, t: Transaction) -> Pool
     requires { T (good w) × T (ltb w.paying most_payments) }
     ensures { result ≡ book_payment w t }
 {
-    let own = w.own;
-    let entries = w.entries;
-    let payments = w.payments;
-    let paying = booking::payments_after_payment(payments, w.paying, t);
-    let next_payments = paying.payments;
+    let paying = booking::payments_after_payment(&w, t);
+    let payments = paying.items;
     Pool {
-        own,
-        owns: w.owns,
-        below: w.below,
-        entries,
-        used: w.used,
-        payments: next_payments,
+        payments,
         paying: paying.count,
+        ..w
     }
 }
 
@@ -146,22 +92,17 @@ pub(crate) fn after_rollback(w: Pool) -> Pool
     requires { T (good w) × T (ltb 0 w.below) }
     ensures { result ≡ book_rollback w }
 {
-    let own = w.own;
-    let entries = w.entries;
-    let payments = w.payments;
-    let kept = booking::entries_after_rollback(entries, w.used);
-    let paying = booking::payments_after_rollback(payments, w.paying);
-    let next_entries = kept.entries;
-    let next_payments = paying.payments;
-    let below = w.below - 1;
+    let kept = booking::entries_after_rollback(&w);
+    let paying = booking::payments_after_rollback(&w);
+    let entries = kept.items;
+    let payments = paying.items;
     Pool {
-        own,
-        owns: w.owns,
-        below,
-        entries: next_entries,
+        below: w.below - 1,
+        entries,
         used: kept.count,
-        payments: next_payments,
+        payments,
         paying: paying.count,
+        ..w
     }
 }
 

@@ -1,59 +1,28 @@
 // What a query hands back: what was worked out where the wallet is sound, else 9 and nothing.
-ghost use Rattle.std.specs.Prelude.{[], ◌≡◌};
+ghost use Rattle.std.specs.Prelude.{[], cond, ◌≡◌};
 ghost use Rattle.flat.specs.Flat.{block_of};
-ghost use Rattle.wallet.specs.Told.{told_amount, told_list, told_pending};
 
-use crate::bookings::nothing;
-use crate::{Amount, Listed, Pending};
+use crate::refusal::Refusal;
 use chain::Block;
-use flat::Made;
 use rules::MOST_TRANSACTIONS;
 
-// The paper's refusal of a wallet that is not sound.
-const NOT_SOUND: u32 = 9;
-
-pub(crate) fn told_amount(sound: bool, amount: u64) -> Amount
-    ensures { result ≡ told_amount sound amount }
+// The answer, and what is told with it.
+pub(crate) fn told<T: Copy>(sound: bool, value: T, nothing: T) -> (u32, T)
+    ensures { result ≡ cond sound (0, value) (9, nothing) }
 {
-    if !sound {
-        return Amount {
-            answer: NOT_SOUND,
-            amount: 0,
-        };
+    if sound {
+        (0, value)
+    } else {
+        (Refusal::NotSound.number(), nothing)
     }
-    Amount { answer: 0, amount }
 }
 
-pub(crate) fn told_list(sound: bool, list: Made) -> Listed
-    ensures { result ≡ told_list sound list }
-{
-    if !sound {
-        return Listed {
-            answer: NOT_SOUND,
-            list: nothing(),
-        };
-    }
-    Listed { answer: 0, list }
-}
-
-// The empty block.
-fn no_payment() -> Block
+// The empty block. A derived default does not say of the array what it holds.
+pub(crate) fn no_payment() -> Block
     ensures { result ≡ block_of [] }
 {
     Block {
         transactions: [chain::zero_transaction(); MOST_TRANSACTIONS],
         count: 0,
     }
-}
-
-pub(crate) fn told_pending(sound: bool, list: Block) -> Pending
-    ensures { result ≡ told_pending sound list }
-{
-    if !sound {
-        return Pending {
-            answer: NOT_SOUND,
-            list: no_payment(),
-        };
-    }
-    Pending { answer: 0, list }
 }

@@ -1,174 +1,117 @@
 // Tests that the refusals are made of, asked of the pool.
-ghost use Rattle.std.specs.Prelude.{not, ◌||◌, [], ◌∷◌, ◌≡◌, ◌≤◌, T, leb, ltb, take};
+ghost use Rattle.std.specs.Prelude.{not, ◌||◌, ◌≡◌, ◌<◌, ◌^◌, map, sum_by, take};
+ghost use Rattle.balance.specs.Worth.{worth_within};
 ghost use Rattle.chain.specs.View.{same_struct};
-ghost use Rattle.flat.specs.Flat.{block_of, made_in, made_of, refs_in};
+ghost use Rattle.flat.specs.Flat.{made_in};
+ghost use Rattle.pool.specs.View.{payments_of};
 ghost use Rattle.rules.specs.Chain.{same_number, same_reference};
-ghost use Rattle.rules.specs.Sizes.{largest_amount, most_outputs, most_payments, most_transactions};
-ghost use Rattle.sets.specs.Sets.{all, any, has, keep, total};
+ghost use Rattle.sets.specs.Sets.{all, any, has, keep};
+ghost use Rattle.wallet.specs.Answers.{number_used, payments_agree};
 
 use chain::{Block, Transaction};
-use flat::{Made, Places, Refs};
-use pool::{Held, Payment};
-use rules::{MOST_OUTPUTS, MOST_PAYMENTS, MOST_REFERENCES, MOST_TRANSACTIONS, Number, Output};
+use flat::Made;
+use pool::{Held, Payment, Pool};
+use rules::{Number, Output, Reference};
 
 // Whether a payment has this number.
-pub(crate) fn payments_have(
-    payments: [Payment; MOST_PAYMENTS],
-    paying: usize,
-    number: Number,
-) -> bool
-    ensures { result ≡ any (λ p. same_number number p.transaction.number) (take paying payments) }
+#[tactic(auto, unfolding(rules::specs::Chain::same_number))]
+fn payments_have(payments: &[Payment], number: Number) -> bool
+    ensures { result ≡ any (λ p. same_number number p.transaction.number) payments.now }
 {
-    let end = flat::capped(paying, MOST_PAYMENTS);
-    let mut found = false;
-    let mut i = 0;
-    while i < end {
-        let payment = payments[i];
-        let transaction = payment.transaction;
-        let here = chain::same_number(number, transaction.number);
-        found = found | here;
-        i += 1;
-    }
-    found
+    payments.iter().any(|p| number == p.transaction.number)
 }
 
 // Whether an entry's reference has this number.
-pub(crate) fn entries_have(entries: [Held; MOST_REFERENCES], used: usize, number: Number) -> bool
-    ensures { result ≡ any (λ h. same_number number h.entry.reference.number) (take used entries) }
+#[tactic(auto, unfolding(rules::specs::Chain::same_number))]
+fn entries_have(entries: &[Held], number: Number) -> bool
+    ensures { result ≡ any (λ h. same_number number h.entry.reference.number) entries.now }
 {
-    let end = flat::capped(used, MOST_REFERENCES);
-    let mut found = false;
-    let mut i = 0;
-    while i < end {
-        let held = entries[i];
-        let entry = held.entry;
-        let reference = entry.reference;
-        let here = chain::same_number(number, reference.number);
-        found = found | here;
-        i += 1;
-    }
-    found
+    entries.iter().any(|h| number == h.entry.reference.number)
 }
 
-// A transaction alone, as a block.
-pub(crate) fn alone(t: Transaction) -> Block
-    ensures { result ≡ block_of (t ∷ []) }
+// Whether either has.
+pub(crate) fn number_used(w: &Pool, number: Number) -> bool
+    ensures { result ≡ number_used w.now number }
 {
-    let mut transactions = [chain::zero_transaction(); MOST_TRANSACTIONS];
-    transactions[0] = t;
-    Block {
-        transactions,
-        count: 1,
-    }
+    payments_have(w.payments(), number) || entries_have(w.entries(), number)
 }
 
-// Whether every place was found, or any.
-pub(crate) fn all_found(places: Places, stop: usize) -> bool
-    ensures { result ≡ all (λ a. ltb a stop) (take places.count places.at) }
+// Whether a reference is among some.
+#[tactic(auto, unfolding(rules::specs::Chain::same_number))]
+fn is_among(r: &Reference, refs: &[Reference]) -> bool
+    ensures { result ≡ has same_reference r.now refs.now }
 {
-    let at = places.at;
-    let end = flat::capped(places.count, MOST_REFERENCES);
-    let mut ok = true;
-    let mut i = 0;
-    while i < end {
-        let here = at[i] < stop;
-        ok = ok & here;
-        i += 1;
-    }
-    ok
+    refs.contains(r)
 }
 
-pub(crate) fn any_found(places: Places, stop: usize) -> bool
-    ensures { result ≡ any (λ a. ltb a stop) (take places.count places.at) }
+// Whether each of some references is among others.
+fn each_among(these: &[Reference], those: &[Reference]) -> bool
+    ensures { result ≡ all (λ r. has same_reference r those.now) these.now }
 {
-    let at = places.at;
-    let end = flat::capped(places.count, MOST_REFERENCES);
-    let mut found = false;
-    let mut i = 0;
-    while i < end {
-        let here = at[i] < stop;
-        found = found | here;
-        i += 1;
-    }
-    found
+    these.iter().all(|r| is_among(r, those))
 }
 
-// The entries of a list whose reference is among some others.
-pub(crate) fn among(list: Made, refs: Refs) -> Made
-    ensures { result ≡ made_of (keep (λ e. has same_reference e.reference (refs_in refs)) (made_in list)) }
+// Whether every input stands in a list of entries.
+pub(crate) fn all_among(inputs: &[Reference], list: Made) -> bool
+    ensures { result ≡ all (λ i. has same_reference i (map (λ e. e.reference) (made_in list))) inputs.now }
 {
-    let at = flat::sought(flat::made_refs(list), refs).at;
-    let stop = flat::capped(refs.count, MOST_REFERENCES);
-    let entries = list.entries;
-    let end = flat::capped(list.count, MOST_REFERENCES);
-    let mut kept = [flat::zero_entry(); MOST_REFERENCES];
-    let mut count: usize = 0;
-    let mut i = 0;
-    while i < end {
-        let live = at[i] < stop;
-        kept[count] = flat::entry_if(live, entries[i]);
-        count += live as usize;
-        i += 1;
-    }
-    Made {
-        entries: kept,
-        count,
-    }
+    each_among(inputs, flat::made_refs(list).as_slice())
 }
 
-// What a good transaction pays out.
-pub(crate) fn paid_out(outputs: [Output; MOST_OUTPUTS], makes: usize) -> u64
-    requires makes_le_most_outputs { makes ≤ most_outputs }
-    requires t { T (all (λ o. leb o.amount largest_amount) (take makes outputs)) }
-    ensures { result ≡ total (λ o. o.amount) (take makes outputs) }
+// Whether one was found.
+fn any_found(found: &[bool]) -> bool
+    ensures { result ≡ any (λ f. f) found.now }
 {
-    let mut sum: u64 = 0;
-    let mut i = 0;
-    while i < makes {
-        let output = outputs[i];
-        sum += output.amount;
-        i += 1;
+    found.iter().any(|f| *f)
+}
+
+// Whether an entry of a list stands in another.
+pub(crate) fn any_among(these: Made, list: Made) -> bool
+    ensures { result ≡ any (λ r. has same_reference r (map (λ e. e.reference) (made_in list))) (map (λ e. e.reference) (made_in these)) }
+{
+    any_found(flat::found(flat::made_refs(these), flat::made_refs(list)).as_slice())
+}
+
+// The lovelace of the entries of a list that some inputs take.
+pub(crate) fn worth_taken(list: Made, inputs: &[Reference]) -> u64
+    ensures { result ≡ worth_within (keep (λ e. has same_reference e.reference inputs.now) (made_in list)) }
+{
+    let mut taken = Made::none(flat::zero_entry());
+    for entry in list.as_slice() {
+        if is_among(&entry.reference, inputs) {
+            taken.push(*entry);
+        }
     }
-    sum
+    balance::worth_of(taken)
+}
+
+// The lovelace of some outputs.
+pub(crate) fn paid_out(outputs: &[Output]) -> u64
+    requires { sum_by (λ o. o.amount) outputs.now < 2 ^ 64 }
+    ensures { result ≡ sum_by (λ o. o.amount) outputs.now }
+{
+    outputs.iter().map(|o| o.amount).sum()
 }
 
 // Whether a transaction agrees with a payment: not one number with two contents.
-pub(crate) fn agrees(t: Transaction, payment: Payment) -> bool
-    ensures { result ≡ (not (same_number t.number payment.transaction.number) || same_struct t payment.transaction) }
+#[tactic(auto, unfolding(rules::specs::Chain::same_number))]
+fn agrees(t: &Transaction, payment: &Payment) -> bool
+    ensures { result ≡ (not (same_number t.now.number payment.now.transaction.number) || same_struct t.now payment.now.transaction) }
 {
-    let transaction = payment.transaction;
-    let same = chain::same_number(t.number, transaction.number);
-    if !same {
-        return true;
-    }
-    chain::same_transaction(t, transaction)
+    t.number != payment.transaction.number || chain::same_transaction(*t, payment.transaction)
 }
 
-// Whether each transaction of a block agrees with each payment. One loop over both.
-pub(crate) fn transactions_agree(
-    b: Block,
-    payments: [Payment; MOST_PAYMENTS],
-    paying: usize,
-) -> bool
-    requires count_le_most_transactions { b.count ≤ most_transactions }
-    requires paying_le_most_payments { paying ≤ most_payments }
-    ensures { result ≡ all (λ t. all (λ p. not (same_number t.number p.transaction.number) || same_struct t p.transaction) (take paying payments)) (take b.count b.transactions) }
+// Whether a transaction agrees with each payment.
+fn agrees_with(t: &Transaction, payments: &[Payment]) -> bool
+    ensures { result ≡ all (λ p. not (same_number t.now.number p.transaction.number) || same_struct t.now p.transaction) payments.now }
 {
-    let transactions = b.transactions;
-    let count = b.count;
-    let mut ok = true;
-    if paying == 0 {
-        return ok;
-    }
-    let mut i: usize = 0;
-    let mut j: usize = 0;
-    while i < count {
-        let here = agrees(transactions[i], payments[j]);
-        ok = ok & here;
-        let next = j + 1;
-        let done = next == paying;
-        j = flat::turn(done, next);
-        i += done as usize;
-    }
-    ok
+    payments.iter().all(|p| agrees(t, p))
+}
+
+// Whether each transaction of a block agrees with each payment.
+pub(crate) fn payments_agree(w: &Pool, b: &Block) -> bool
+    ensures { result ≡ payments_agree w.now b.now }
+{
+    let payments = w.payments();
+    b.transactions().iter().all(|t| agrees_with(t, payments))
 }

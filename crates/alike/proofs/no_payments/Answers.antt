@@ -1,5 +1,14 @@
--- The code tells a list of no payments.
+-- What the look at every place answers.
+use Rattle.std.proofs.Common.{rules, tests, arith}
+use Rattle.std.proofs.lemmas.Iterator.{YieldsList-from_slice}
+use Rattle.std.proofs.lemmas.Iterator.Search.{all_from_yields_List}
+use Rattle.chain.specs.View.{no_transaction}
 use Rattle.alike.proofs.no_payments.Goals as goal
 
-pub returns : goal.returns
-returns c = cc
+pub returns-then-all : goal.returns-then-all
+returns-then-all c =
+    let empty =
+    all_from_yields_List no_transaction _ _ c.all.result c.all.ensures.ran
+    (YieldsList-from_slice c.args.list.transactions cc) (λ x b q k. search (rules, tests))
+    in
+    grind (arith, empty)

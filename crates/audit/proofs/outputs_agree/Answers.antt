@@ -1,42 +1,23 @@
-use Prim.Native.Nat.{◌-◌, ◌<◌, min}
-use mathlib.Core.Path.{refl, ap, ◌∙◌}
-use native.Mathlib.Omega.{arith}
-use lib.ListN.{take, length-map}
-use Rattle.sets.specs.Sets.{all}
-use Rattle.sets.specs.Walks.{all_step}
-use Rattle.sets.specs.Fill.{take_done, mapped_length}
-use Rattle.rules.specs.Sizes.{most_references}
+-- What the look at each output beside its place answers.
+use Rattle.std.proofs.Common.{ℕ, ◌∙◌, map, rules, tests}
+use Rattle.std.specs.List.{slice_get}
+use Rattle.std.proofs.lemmas.Iterator.{YieldsList-from_slice, YieldsList-from_zip}
+use Rattle.std.proofs.lemmas.Iterator.Search.{all_from_yields_List}
 use Rattle.rules.specs.declared.Entry.{Entry}
-use Rattle.pool.specs.declared.Held.{Held}
-use Rattle.flat.specs.declared.Refs.{Refs}
-use Rattle.audit.specs.Audit.{agrees_first}
-use Rattle.audit.specs.Agreement.{held_refs, agrees_at, output_place}
-use borrow.Author.Rules.{rules}
+use Rattle.pool.specs.View.{entries_of}
+use Rattle.flat.specs.Flat.{made_in, seek}
+use Rattle.audit.specs.Agreement.{agrees_found, all_found_first, held_refs, places_sought}
 use Rattle.audit.proofs.outputs_agree.Goals as goal
-
-pub loop-i-init : goal.loop-i-init
-loop-i-init c = (search rules, search rules, search (rules, mapped_length), search (rules, mapped_length), search (rules, mapped_length), refl)
-
-pub loop-i-preserved : goal.loop-i-preserved
-loop-i-preserved c =
-    let inside : c.loop-i.i < min c.args.made.count most_references = omega (arith, c.capped-end.ensures) in (
-      search rules,
-      search rules,
-      search rules,
-      search rules,
-      search rules,
-      all_step (λ (o : Entry). agrees_first o (take c.args.used c.args.entries)) c.args.made.entries c.loop-i.i _ _ _
-          (search rules) c.loop-i.invariant.5
-          (agrees_at _ c.args.entries c.args.used _ _ _ _ (search rules)
-          (output_place c.args.made (held_refs (take c.args.used c.args.entries)) _ _ _ c.loop-i.i _
-          c.made_refs.ensures c.held_refs-refs.ensures c.sought.ensures (search rules) inside)
-          (ap (λ (r : Refs). r.count) c.held_refs-refs.ensures ∙ length-map (take c.args.used c.args.entries) (λ (h : Held). h.entry.reference))
-          c.same_value-here.ensures),
-    )
 
 pub returns : goal.returns
 returns c =
-    c.loop-i.invariant.5
-    ∙ ap (all (λ (o : Entry). agrees_first o (take c.args.used c.args.entries)))
-    (take_done c.args.made.entries c.args.made.count most_references _ c.loop-i.i
-    (search rules) c.capped-end.ensures (search rules) (search rules))
+    let es = entries_of c.args.w.now in
+    let outs = made_in c.args.made in
+    let places =
+    places_sought outs (held_refs es) _ _ _ c.made_refs.ensures c.held_refs.ensures c.sought-at.ensures
+    in
+    all_from_yields_List (λ (p : Entry × ℕ). agrees_found p.0 (slice_get es p.1)) c.all.new.self _ c.all.result c.all.ensures.ran
+    (YieldsList-from_zip (YieldsList-from_slice {s = c.zip.result.a} outs (search rules))
+    (YieldsList-from_slice {s = c.zip.result.b} (map (λ (o : Entry). seek o.reference (held_refs es)) outs) (search (rules, places))))
+    (λ x b q k. search (rules, tests))
+    ∙ all_found_first es outs

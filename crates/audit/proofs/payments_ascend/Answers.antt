@@ -1,25 +1,12 @@
-use Prim.Native.Nat.{◌-◌}
-use mathlib.Core.Path.{sym, ◌∙◌}
-use Rattle.sets.specs.Walks.{ascending_start, ascending_step, ascending_end}
+use Rattle.std.proofs.Common.{rules}
+use Rattle.std.proofs.lemmas.List.Sorted.{answers_always}
+use Rattle.rules.specs.Chain.{before_number, same_number}
 use Rattle.pool.specs.Good.{before_payment}
-use borrow.Author.Rules.{rules}
+use Rattle.audit.specs.Rising.{rising}
 use Rattle.audit.proofs.payments_ascend.Goals as goal
 
-pub loop-i-init : goal.loop-i-init
-loop-i-init c =
-    (search rules, search rules, search rules, sym (ascending_start before_payment c.args.payments))
-
-pub loop-i-preserved : goal.loop-i-preserved
-loop-i-preserved c = (
-  search rules,
-  search rules,
-  search rules,
-  ascending_step before_payment c.args.payments c.loop-i.i _ _ _
-      (search rules) (search rules) c.loop-i.invariant.3 c.before_number-here.ensures,
-)
-
 pub returns : goal.returns
+unfolding before_number same_number
 returns c =
-    c.loop-i.invariant.3
-    ∙ ascending_end before_payment c.args.payments c.args.paying c.loop-i.i
-    (search rules) (search rules) (search rules)
+    rising before_payment c.args.payments.now c.is_sorted_by.result
+    (c.is_sorted_by.ensures.cases before_payment (answers_always _ _ _ (λ f a r g k. search rules)))

@@ -1,23 +1,27 @@
-use Prim.Native.Nat.{◌-◌}
-use mathlib.Core.Path.{refl}
-use Rattle.sets.specs.Walks.{all_step, all_end}
+-- What the looks at the unused places and at the others answer.
+use Rattle.std.proofs.Common.{rules, tests, arith}
+use Rattle.std.proofs.lemmas.Iterator.{YieldsList-from_slice}
+use Rattle.std.proofs.lemmas.Iterator.Search.{all_from_yields_List}
+use Rattle.pool.specs.Good.{no_payment}
 use Rattle.audit.specs.Audit.{payment_test}
-use borrow.Author.Rules.{rules}
 use Rattle.audit.proofs.payments_good.Goals as goal
 
-pub loop-i-init : goal.loop-i-init
-loop-i-init c =
-    (search rules, search rules, refl)
+pub returns-then-payments_ascend : goal.returns-then-payments_ascend
+returns-then-payments_ascend c =
+    let rest =
+    all_from_yields_List no_payment _ _ c.all.result c.all.ensures.ran
+    (YieldsList-from_slice c.args.unused.now cc) (λ x b q k. search (rules, tests))
+    in
+    let used =
+    all_from_yields_List (payment_test c.args.limit) _ _ c.all-then-payments_ascend.result c.all-then-payments_ascend.ensures.ran
+    (YieldsList-from_slice c.args.payments.now cc) (λ x b q k. search (rules, tests))
+    in
+    grind (arith, rest, used)
 
-pub loop-i-preserved : goal.loop-i-preserved
-loop-i-preserved c = (
-  search rules,
-  search rules,
-  all_step (payment_test c.args.limit) c.args.payments c.loop-i.i _ _ _
-      (search rules) c.loop-i.invariant.2 c.payment_good-here.ensures,
-)
-
-pub returns : goal.returns
-returns c =
-    all_end (payment_test c.args.limit) c.args.payments c.args.paying c.loop-i.i _
-    (search rules) (search rules) c.loop-i.invariant.2
+pub returns-else-payments_ascend : goal.returns-else-payments_ascend
+returns-else-payments_ascend c =
+    let rest =
+    all_from_yields_List no_payment _ _ c.all.result c.all.ensures.ran
+    (YieldsList-from_slice c.args.unused.now cc) (λ x b q k. search (rules, tests))
+    in
+    grind (arith, rest)

@@ -1,22 +1,16 @@
-use Prim.Native.Nat.{◌-◌}
-use mathlib.Core.Path.{refl}
-use Rattle.sets.specs.Walks.{all_step, all_end}
-use Rattle.chain.specs.View.{good_transaction}
-use borrow.Author.Rules.{rules}
+-- The transactions are good: what `all` and `is_sorted_by` answer.
+use Rattle.std.proofs.Common.{rules, of_calls, tests, arith}
+use Rattle.std.proofs.lemmas.Iterator.{YieldsList-from_slice}
+use Rattle.std.proofs.lemmas.Iterator.Search.{all_from_yields_List}
+use Rattle.rules.specs.Chain.{before_number}
+use Rattle.chain.specs.View.{good_transaction, before_struct}
+use Rattle.chain.specs.Rising.{rises}
 use Rattle.chain.proofs.transactions_good.Goals as goal
 
-pub loop-i-init : goal.loop-i-init
-loop-i-init c = (search rules, search rules, refl)
-
-pub loop-i-preserved : goal.loop-i-preserved
-loop-i-preserved c = (
-  search rules,
-  search rules,
-  all_step good_transaction c.args.transactions c.loop-i.i _ _ _
-      (search rules) c.loop-i.invariant.2 c.good_transaction-here.ensures,
-)
-
-pub returns : goal.returns
-returns c =
-    all_end good_transaction c.args.transactions c.args.count c.loop-i.i _
-    (search rules) (search rules) c.loop-i.invariant.2
+pub returns-then-all : goal.returns-then-all
+unfolding before_number
+returns-then-all c =
+    let l = c.args.transactions.now in
+    let good = all_from_yields_List good_transaction _ _ c.all.result c.all.ensures.ran (YieldsList-from_slice l cc) (λ x b q k. search (rules, tests)) in
+    let rise = rises before_struct l _ c.is_sorted_by.ensures.cases (λ f a b q k. search (rules, of_calls)) in
+    grind (arith, good, rise)

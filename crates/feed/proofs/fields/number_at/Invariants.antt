@@ -5,6 +5,3 @@ use Rattle.feed.proofs.fields.number_at.Given as goal
 
 abbrev pub invariant-loop-i : goal.invariant-loop-i
 invariant-loop-i l = From l.bytes l.place l.width l.value l.i
-
-abbrev pub decreases-loop-i : goal.decreases-loop-i
-decreases-loop-i l = l.i

@@ -1,23 +1,13 @@
-use Prim.Native.Nat.{◌-◌}
-use mathlib.Core.Path.{◌≡◌, refl, ap, ◌∙◌}
-use mathlib.Core.List.{List, map}
-use lib.ListN.{length, replicate}
-use Rattle.chain.specs.View.{zero_reference}
-use Rattle.sets.specs.Fill.{filled, take_done, mapped_length, map_turn, map_count}
-use Rattle.rules.specs.declared.Entry.{Entry}
-use borrow.Author.Rules.{rules}
+use Rattle.std.proofs.Common.{map}
+use Rattle.fixed.specs.Laws.{all_taken, map_pushed}
 use Rattle.flat.proofs.lists.made_refs.Goals as goal
 
-pub loop-i-init : goal.loop-i-init
-loop-i-init c = (search rules, search rules, search (rules, mapped_length), ap (replicate 128) c.zero_reference-refs.ensures)
-
-pub loop-i-preserved : goal.loop-i-preserved
-loop-i-preserved c = (search rules, search rules, search rules, map_turn 128 zero_reference (λ (e : Entry). e.reference) _ _ _ _ _ (search rules) (search rules) c.loop-i.invariant.3 refl)
+pub loop-entry-preserved : goal.loop-entry-preserved
+loop-entry-preserved c =
+    map_pushed _ _ (λ e. e.reference) c.as_slice-entry-items.result.now c.loop-entry.entry-index _ _ _ c.loop-entry.invariant
+    c.loop-entry-test.true c.as_slice-entry-items.ensures.most c.push.ensures
 
 pub returns : goal.returns
 returns c =
-    let places : length c.args.made.entries ≡ 128 = search rules in
-    let count = map_count (λ (e : Entry). e.reference) c.args.made.entries c.args.made.count 128 _ places c.capped-count.ensures in
-    let done = take_done c.args.made.entries c.args.made.count 128 _ c.loop-i.i places c.capped-count.ensures (search rules) (search rules) in
-    let refs = c.loop-i.invariant.3 ∙ ap (λ (l : List Entry). filled 128 zero_reference (map (λ (e : Entry). e.reference) l)) done in
-    λ i. record { refs = refs i; count = count i }
+    all_taken _ _ (map (λ e. e.reference)) _ _ c.loop-entry.entry-index _ c.loop-entry.invariant c.loop-entry-test.false
+    c.as_slice-entry-items.ensures.items

@@ -2,11 +2,12 @@
 use mathlib.Core.Path.{◌≡◌}
 use mir.Syntax.{w64}
 use mir.Facts.{to_z-of_z}
-use Rattle.lines.specs.Signed.{held}
+use Rattle.std.proofs.Common.{rules}
+use Rattle.lines.specs.Text.{held}
 use Rattle.lines.specs.Balanced.{line_is}
 use Rattle.lines.proofs.events.line_of.Goals as goal
 
 pub returns : goal.returns
 returns c =
-    let back : held c.args.step.movement ≡ c.args.step.movement = to_z-of_z {w = w64} {z = c.args.step.movement} (record { sfits = c.struct_told-1.given.1.1.0.1 }) in
+    let back : held c.args.step.movement ≡ c.args.step.movement = to_z-of_z {w = w64} {z = c.args.step.movement} (record { sfits = search rules }) in
     line_is c.args.row c.args.kind c.args.step c.balances-b.result (held c.args.step.movement) c.requires c.balances-b.ensures back

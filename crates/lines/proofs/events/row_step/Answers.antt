@@ -10,4 +10,4 @@ use Rattle.lines.proofs.events.row_step.Goals as goal
 
 pub returns : goal.returns
 returns c =
-    subst (λ (b : List ℕ). Told (event_step (viewed c.args.w) (read_body c.args.kind b)) c.event.result) c.body_in-body.ensures c.event.ensures
+    subst (λ (b : List ℕ). Told (event_step (viewed c.args.w) (read_body c.args.kind b)) c.event.result) c.body_in.ensures c.event.ensures

@@ -1,80 +1,26 @@
--- Seven writers, one behind the other: `c_n` is the N-th call. What they put, joined, is the line.
-use Prim.Native.Nat.{◌+◌, ◌≤◌}
-use mathlib.Core.Path.{◌≡◌, subst, sym}
-use mathlib.Core.List.{[], ◌∷◌, ◌++◌}
-use lib.IntN.{ℤ}
-use lib.ListN.{length}
-use mir.Syntax.{w64}
-use mir.Facts.{to_z-of_z}
-use Rattle.lines.specs.Signed.{held}
-use Rattle.lines.specs.Sheet.{signed, line_text}
-use Rattle.lines.specs.Placed.{Wrote, wrote_length}
-use Rattle.lines.specs.Text.{first_room, second_room, third_room, fourth_room, fifth_room, sixth_room, last_room, line_wrote}
+use Rattle.std.specs.Prelude.{ℤ}
+use Rattle.std.specs.Int.{w64}
+use Rattle.std.proofs.Common.{rules, to_z-of_z, ◌≡◌, [], ◌∷◌, ◌++◌, ◌∙◌, ap}
+use Rattle.fixed.specs.Filled.{with_items}
+use Rattle.lines.specs.Text.{put_then, row_part, kind_part, answer_part, available_part, total_part, minimum_part, movement_part, line_parts_lem, held}
+use Rattle.lines.specs.Sheet.{signed}
 use Rattle.lines.proofs.text.put_line.Goals as goal
-
-pub put_number-row-requires : goal.put_number-row-requires
-put_number-row-requires c =
-    first_room c.args.t.now c.args.at c.args.line c.requires
-
-pub put_kind-kind-requires : goal.put_kind-kind-requires
-put_kind-kind-requires c =
-    second_room c.args.t.now c.args.at c.args.line c.requires
-    c.put_number-row.new.t c.put_number-row.result (c.put_number-row.ensures.value, c.put_number-row.ensures.t_after)
-
-pub put_number-answer-requires : goal.put_number-answer-requires
-put_number-answer-requires c =
-    third_room c.args.t.now c.args.at c.args.line c.requires
-    c.put_number-row.new.t c.put_number-row.result (c.put_number-row.ensures.value, c.put_number-row.ensures.t_after)
-    c.put_kind-kind.new.t c.put_kind-kind.result (c.put_kind-kind.ensures.value, c.put_kind-kind.ensures.t_after)
-
-pub put_number-available-requires : goal.put_number-available-requires
-put_number-available-requires c =
-    fourth_room c.args.t.now c.args.at c.args.line c.requires
-    c.put_number-row.new.t c.put_number-row.result (c.put_number-row.ensures.value, c.put_number-row.ensures.t_after)
-    c.put_kind-kind.new.t c.put_kind-kind.result (c.put_kind-kind.ensures.value, c.put_kind-kind.ensures.t_after)
-    c.put_number-answer.new.t c.put_number-answer.result (c.put_number-answer.ensures.value, c.put_number-answer.ensures.t_after)
-
-pub put_number-total-requires : goal.put_number-total-requires
-put_number-total-requires c =
-    fifth_room c.args.t.now c.args.at c.args.line c.requires
-    c.put_number-row.new.t c.put_number-row.result (c.put_number-row.ensures.value, c.put_number-row.ensures.t_after)
-    c.put_kind-kind.new.t c.put_kind-kind.result (c.put_kind-kind.ensures.value, c.put_kind-kind.ensures.t_after)
-    c.put_number-answer.new.t c.put_number-answer.result (c.put_number-answer.ensures.value, c.put_number-answer.ensures.t_after)
-    c.put_number-available.new.t c.put_number-available.result (c.put_number-available.ensures.value, c.put_number-available.ensures.t_after)
-
-pub put_number-minimum-requires : goal.put_number-minimum-requires
-put_number-minimum-requires c =
-    sixth_room c.args.t.now c.args.at c.args.line c.requires
-    c.put_number-row.new.t c.put_number-row.result (c.put_number-row.ensures.value, c.put_number-row.ensures.t_after)
-    c.put_kind-kind.new.t c.put_kind-kind.result (c.put_kind-kind.ensures.value, c.put_kind-kind.ensures.t_after)
-    c.put_number-answer.new.t c.put_number-answer.result (c.put_number-answer.ensures.value, c.put_number-answer.ensures.t_after)
-    c.put_number-available.new.t c.put_number-available.result (c.put_number-available.ensures.value, c.put_number-available.ensures.t_after)
-    c.put_number-total.new.t c.put_number-total.result (c.put_number-total.ensures.value, c.put_number-total.ensures.t_after)
-
-pub put_signed-requires : goal.put_signed-requires
-put_signed-requires c =
-    let back : held c.args.line.movement ≡ c.args.line.movement = to_z-of_z {w = w64} {z = c.args.line.movement} (record { sfits = c.struct_told-1.given.1.1.1.1.1.1.0.1 }) in
-    subst (λ (z : ℤ). c.put_number-minimum.result + length (signed z ++ 10 ∷ []) ≤ length c.put_number-minimum.new.t) (sym back)
-    (last_room c.args.t.now c.args.at c.args.line c.requires
-    c.put_number-row.new.t c.put_number-row.result (c.put_number-row.ensures.value, c.put_number-row.ensures.t_after)
-    c.put_kind-kind.new.t c.put_kind-kind.result (c.put_kind-kind.ensures.value, c.put_kind-kind.ensures.t_after)
-    c.put_number-answer.new.t c.put_number-answer.result (c.put_number-answer.ensures.value, c.put_number-answer.ensures.t_after)
-    c.put_number-available.new.t c.put_number-available.result (c.put_number-available.ensures.value, c.put_number-available.ensures.t_after)
-    c.put_number-total.new.t c.put_number-total.result (c.put_number-total.ensures.value, c.put_number-total.ensures.t_after)
-    c.put_number-minimum.new.t c.put_number-minimum.result (c.put_number-minimum.ensures.value, c.put_number-minimum.ensures.t_after))
 
 pub returns : goal.returns
 returns c =
-    let back : held c.args.line.movement ≡ c.args.line.movement = to_z-of_z {w = w64} {z = c.args.line.movement} (record { sfits = c.struct_told-1.given.1.1.1.1.1.1.0.1 }) in
-    let wrote =
-    line_wrote c.args.t.now c.args.at c.args.line c.requires
-    c.put_number-row.new.t c.put_number-row.result (c.put_number-row.ensures.value, c.put_number-row.ensures.t_after)
-    c.put_kind-kind.new.t c.put_kind-kind.result (c.put_kind-kind.ensures.value, c.put_kind-kind.ensures.t_after)
-    c.put_number-answer.new.t c.put_number-answer.result (c.put_number-answer.ensures.value, c.put_number-answer.ensures.t_after)
-    c.put_number-available.new.t c.put_number-available.result (c.put_number-available.ensures.value, c.put_number-available.ensures.t_after)
-    c.put_number-total.new.t c.put_number-total.result (c.put_number-total.ensures.value, c.put_number-total.ensures.t_after)
-    c.put_number-minimum.new.t c.put_number-minimum.result (c.put_number-minimum.ensures.value, c.put_number-minimum.ensures.t_after)
-    c.put_signed.new.t c.put_signed.result
-    (subst (λ (z : ℤ). Wrote c.put_number-minimum.new.t c.put_number-minimum.result (signed z ++ 10 ∷ []) c.put_signed.new.t c.put_signed.result) back (c.put_signed.ensures.value, c.put_signed.ensures.t_after))
-    in
-    record { value = wrote.0; t_after = wrote.1 }
+    let old = c.args.text.now in
+    let l = c.args.line in
+    let b = row_part l ++ kind_part l in
+    let d = b ++ answer_part l in
+    let e = d ++ available_part l in
+    let f = e ++ total_part l in
+    let g = f ++ minimum_part l in
+    let two = put_then old _ _ (row_part l) (kind_part l) c.put_number.ensures c.put_kind.ensures in
+    let three = put_then old _ _ b (answer_part l) two c.put_number-2.ensures in
+    let four = put_then old _ _ d (available_part l) three c.put_number-3.ensures in
+    let five = put_then old _ _ e (total_part l) four c.put_number-4.ensures in
+    let six = put_then old _ _ f (minimum_part l) five c.put_number-5.ensures in
+    let back : held l.movement ≡ l.movement = to_z-of_z {w = w64} {z = l.movement} (record { sfits = search rules }) in
+    put_then old _ _ g (movement_part l) six
+    (c.put_signed.ensures ∙ ap (λ (z : ℤ). with_items c.put_number-5.new.text (signed z ++ 10 ∷ [])) back)
+    ∙ ap (with_items old) (line_parts_lem l)

@@ -1,21 +1,10 @@
--- The array holds the brings of the first i entries; at the end each is the bring of the tables.
-use Prim.Native.Nat.{◌≤◌, ◌-◌}
-use mathlib.Core.List.{map}
-use mathlib.Core.Path.{◌≡◌}
-use lib.ListN.{length, take}
-use Rattle.sets.specs.Fill.{filled}
+use Rattle.std.proofs.Common.{◌≡◌, map, take}
 use Rattle.rules.specs.Sizes.{most_references}
-use Rattle.minimum.specs.Inputs.{no_bring}
-use Rattle.minimum.specs.Bringing.{bring_from}
+use Rattle.fixed.specs.Filled.{filled_of}
+use Rattle.tables.specs.Tables.{bring_of}
+use Rattle.minimum.specs.Inputs.{no_bring, state_of}
 use Rattle.minimum.proofs.brings.brings_of.Given as goal
 
-abbrev pub invariant-loop-i : goal.invariant-loop-i
-invariant-loop-i l =
-    (l.i ≤ l.end)
-    × (l.end ≤ 128)
-    × (l.count ≤ 16)
-    × (length l.entries ≡ 128)
-    × (l.brings ≡ filled most_references no_bring (map (bring_from l.own l.count l.transactions l.taken) (take l.i l.entries)))
-
-abbrev pub decreases-loop-i : goal.decreases-loop-i
-decreases-loop-i l = l.end - l.i
+abbrev pub invariant-loop-entry : goal.invariant-loop-entry
+invariant-loop-entry l =
+    l.brings ≡ filled_of most_references no_bring (map (bring_of l.fn.sets.own.now (state_of l.fn.sets.utxo l.fn.sets.expected l.fn.sets.pending)) (take l.entry-index l.entry-items))

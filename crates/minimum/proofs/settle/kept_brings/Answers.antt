@@ -1,25 +1,16 @@
-use Prim.Native.Nat.{◌-◌}
-use mathlib.Core.Bool.{not}
-use mathlib.Core.Path.{ap}
-use lib.ListN.{replicate}
-use Rattle.rules.specs.Sizes.{most_references}
-use Rattle.sets.specs.Fill.{flag_fits, gaining_start, gaining_turn}
-use Rattle.minimum.specs.Inputs.{no_bring}
-use Rattle.minimum.specs.Settling.{kept_all}
-use borrow.Author.Rules.{rules}
-use Rattle.minimum.proofs.settle.kept_brings.Invariants.{bring_at, live}
+use Rattle.std.proofs.Common.{◌∙◌, ap, not, sym}
+use Rattle.tables.specs.declared.Bring.{Bring}
+use Rattle.tables.specs.Tables.{is_single}
+use Rattle.fixed.specs.Laws.{kept_pushed, kept_passed}
 use Rattle.minimum.proofs.settle.kept_brings.Goals as goal
+use Rattle.minimum.proofs.settle.kept_brings.Goals.{then-not-is_single, else-not-is_single}
 
-pub loop-i-init : goal.loop-i-init
-loop-i-init c = (search rules, gaining_start most_references no_bring (live c.args.brings) (bring_at c.args.brings) _ _ (search rules) (ap (replicate 128) c.no_bring-left.ensures))
-
-pub overflow_add-k : goal.overflow_add-k
-overflow_add-k c = flag_fits _ (not c.is_single-single.result) (search rules)
-
-pub loop-i-preserved : goal.loop-i-preserved
-loop-i-preserved c =
-    (c.loop-i.invariant.0, gaining_turn most_references no_bring (live c.args.brings) (bring_at c.args.brings) _ _ _ c.loop-i.i _ _ (search rules) (ap not c.is_single-single.ensures) c.bring_if.ensures c.loop-i.invariant.1)
-
-pub returns : goal.returns
-returns c =
-    kept_all c.args.brings c.args.count _ _ c.loop-i.i c.loop-i.invariant.0 (search rules) c.loop-i.invariant.1
+pub loop-bring-preserved : goal.loop-bring-preserved
+loop-bring-preserved c = elim c.if-not-is_single.branch [
+  | then-not-is_single w ↦
+      kept_pushed _ _ (λ (b : Bring). not (is_single b)) c.args.brings.now c.loop-bring.bring-index _ _ _ c.loop-bring.invariant c.loop-bring-test.true
+      c.requires (ap not (sym c.is_single.ensures ∙ w.if-not-is_single.true)) (w.left-is ∙ w.push.ensures)
+  | else-not-is_single w ↦
+      kept_passed _ _ (λ (b : Bring). not (is_single b)) c.args.brings.now c.loop-bring.bring-index _ _ (w.left-is ∙ c.loop-bring.invariant)
+      c.loop-bring-test.true (ap not (sym c.is_single.ensures ∙ w.if-not-is_single.false))
+]

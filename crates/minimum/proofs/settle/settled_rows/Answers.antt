@@ -1,45 +1,20 @@
-use Prim.Native.Nat.{◌-◌}
-use mathlib.Core.Path.{refl}
-use Rattle.minimum.specs.Settling.{place_fits, sum_fits, settle_turn, settle_end}
-use borrow.Author.Rules.{rules}
+use Rattle.std.proofs.Common.{◌∙◌, sym}
+use Rattle.minimum.specs.Settling.{place_fits, sum_fits, settle_turn, settle_pass}
+use Rattle.minimum.proofs.settle.settled_rows.Goals.{then-is_single, else-is_single}
 use Rattle.minimum.proofs.settle.settled_rows.Goals as goal
 
-pub loop-i-init : goal.loop-i-init
-loop-i-init c = (c.requires, search rules, search rules, search rules, refl)
+pub bounds-rows-bring : goal.bounds-rows-bring
+bounds-rows-bring c = place_fits _ _ c.requires _ c.loop-bring-test.true (sym c.is_single.ensures ∙ c.if-is_single.true)
 
-pub offset_bounds-out-at : goal.offset_bounds-out-at
-offset_bounds-out-at c =
-    let fits = place_fits c.args.rows c.args.n c.args.brings c.args.count c.loop-i.invariant.0 c.loop-i.i (search rules) c.loop-i.invariant.2 c.is_single-single.result c.is_single-single.ensures c.place_of-at.result c.place_of-at.ensures in
-    search rules
+pub bounds-rows-bring-then-is_single : goal.bounds-rows-bring-then-is_single
+bounds-rows-bring-then-is_single c = place_fits _ _ c.requires _ c.loop-bring-test.true (sym c.is_single.ensures ∙ c.if-is_single.true)
 
-pub bounds-out-at : goal.bounds-out-at
-bounds-out-at c =
-    let fits = place_fits c.args.rows c.args.n c.args.brings c.args.count c.loop-i.invariant.0 c.loop-i.i (search rules) c.loop-i.invariant.2 c.is_single-single.result c.is_single-single.ensures c.place_of-at.result c.place_of-at.ensures in
-    search rules
+pub overflow_add-rows : goal.overflow_add-rows
+overflow_add-rows c =
+    record { fits = sum_fits _ _ c.requires _ c.loop-bring-test.true (sym c.is_single.ensures ∙ c.if-is_single.true) _ c.loop-bring.invariant }
 
-pub raise-requires : goal.raise-requires
-raise-requires c =
-    let fits = place_fits c.args.rows c.args.n c.args.brings c.args.count c.loop-i.invariant.0 c.loop-i.i (search rules) c.loop-i.invariant.2 c.is_single-single.result c.is_single-single.ensures c.place_of-at.result c.place_of-at.ensures in
-    sum_fits c.args.rows c.args.n c.args.brings c.args.count c.loop-i.invariant.0 c.loop-i.i (search rules) c.loop-i.invariant.2 c.is_single-single.result c.is_single-single.ensures _ _ _ c.loop-i.invariant.3 c.loop-i.invariant.4 fits c.amount_if-amount.ensures
-
-pub offset_bounds-out-at-in-loop-i : goal.offset_bounds-out-at-in-loop-i
-offset_bounds-out-at-in-loop-i c =
-    let fits = place_fits c.args.rows c.args.n c.args.brings c.args.count c.loop-i.invariant.0 c.loop-i.i (search rules) c.loop-i.invariant.2 c.is_single-single.result c.is_single-single.ensures c.place_of-at.result c.place_of-at.ensures in
-    search rules
-
-pub bounds-out-at-in-loop-i : goal.bounds-out-at-in-loop-i
-bounds-out-at-in-loop-i c =
-    let fits = place_fits c.args.rows c.args.n c.args.brings c.args.count c.loop-i.invariant.0 c.loop-i.i (search rules) c.loop-i.invariant.2 c.is_single-single.result c.is_single-single.ensures c.place_of-at.result c.place_of-at.ensures in
-    search rules
-
-pub loop-i-preserved : goal.loop-i-preserved
-loop-i-preserved c = (
-  c.loop-i.invariant.0,
-  search rules,
-  c.loop-i.invariant.2,
-  c.loop-i.invariant.3,
-  settle_turn c.args.rows c.args.n c.args.brings c.args.count c.loop-i.invariant.0 c.loop-i.i (search rules) c.loop-i.invariant.2 c.is_single-single.result c.is_single-single.ensures _ _ _ _ c.loop-i.invariant.4 c.place_of-at.ensures c.amount_if-amount.ensures c.raise.ensures,
-)
-
-pub returns : goal.returns
-returns c = settle_end _ _ _ _ c.loop-i.i _ c.loop-i.invariant.0 c.loop-i.invariant.3 (search rules) (search rules) c.loop-i.invariant.4
+pub loop-bring-preserved : goal.loop-bring-preserved
+loop-bring-preserved c = elim c.if-is_single.branch [
+  | then-is_single w ↦ w.rows-is ∙ settle_turn _ _ c.requires _ c.loop-bring-test.true (sym c.is_single.ensures ∙ w.if-is_single.true) _ c.loop-bring.invariant
+  | else-is_single w ↦ w.rows-is ∙ settle_pass _ _ _ _ c.loop-bring-test.true (sym c.is_single.ensures ∙ w.if-is_single.false) c.loop-bring.invariant
+]

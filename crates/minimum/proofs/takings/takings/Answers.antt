@@ -1,84 +1,70 @@
-use Prim.Native.Nat.{ℕ, ◌<◌, ◌-◌}
-use mathlib.Core.Path.{refl, ap, ◌∙◌}
-use native.Mathlib.Omega.{arith}
-use lib.ListN.{length, get_or, replicate}
-use Rattle.sets.specs.Walks.{total_more}
-use Rattle.sets.specs.Fill.{mapped_length}
-use Rattle.rules.specs.Sizes.{most_payments}
+use Rattle.std.proofs.Common.{◌∙◌, List, [], length, get_or, take, ap, map, sym, arith}
+use Rattle.std.proofs.lemmas.List.{length-map}
+use mathlib.Core.List.{map-map}
+use Rattle.sets.specs.Fill.{gather-map}
+use Rattle.sets.specs.Sets.{gather}
+use Rattle.rules.specs.Sizes.{most_inputs, most_payments, most_references}
+use Rattle.rules.specs.declared.Number.{Number}
+use Rattle.rules.specs.Chain as Chain
+use Rattle.rules.specs.Chain.{spent}
+use Rattle.chain.specs.View.{view_block, view_transaction}
 use Rattle.chain.specs.declared.Transaction.{Transaction}
-use Rattle.chain.specs.Facts.{LaidOut}
-use Rattle.flat.specs.Slots.{past_end}
-use Rattle.minimum.specs.Inputs.{no_taking}
-use Rattle.sets.specs.Listed.{listed_turn}
-use Rattle.minimum.specs.Standing.{taking_from}
-use Rattle.minimum.specs.StandingLaws.{laid_one, taking_at, takings_done}
-use borrow.Author.Rules.{rules}
+use Rattle.fixed.specs.Filled.{filled_of, items_in, with_item}
+use Rattle.fixed.specs.Laws.{all_taken, items-filled, map_pushed}
+use Rattle.flat.specs.Slots.{inputs_of, past_end}
+use Rattle.minimum.specs.declared.takings.Input.{Input}
+use Rattle.minimum.specs.declared.takings.Taking.{Taking}
+use Rattle.minimum.specs.Inputs.{input_of, no_input, no_taking, state_of, taking_of}
+use Rattle.minimum.specs.Takings.{parted_back, parted_front, parted_room}
 use Rattle.minimum.proofs.takings.takings.Goals as goal
 
-pub loop-i-init : goal.loop-i-init
-loop-i-init c = (
-  search rules,
-  c.requires.few_pending,
-  search (rules, mapped_length),
-  (
-    search (rules, mapped_length),
-    search (rules, mapped_length),
-    search (rules, mapped_length),
-    search (rules, mapped_length),
-    search (rules, mapped_length),
-    search (rules, mapped_length),
-  ),
-  c.requires.laid,
-  refl,
-  search rules,
-  ap (replicate most_payments) c.no_taking-taken.ensures,
-)
+pub loop-payment-init : goal.loop-payment-init
+loop-payment-init c =
+    let f = input_of c.args.sets.now.own.now (state_of c.args.sets.now.utxo c.args.sets.now.expected c.args.sets.now.pending) in (
+      c.as_slice-rest.ensures.items
+          ∙ ap items_in c.inputs_of-inputs.ensures
+          ∙ items-filled most_references no_input (map f (spent (view_block c.args.sets.now.pending)))
+          ∙ ap (map f) (gather-map (λ (t : Chain.Transaction). t.inputs) view_transaction (take c.args.sets.now.pending.count c.args.sets.now.pending.transactions))
+          ∙ ap (λ (l : List Transaction). map f (gather inputs_of l)) (sym c.transactions-payment-items.ensures.transactions),
+      c.none-takings.ensures ∙ ap (λ (k : Taking). filled_of most_payments k []) (c.taking_of.ensures ∙ ap (λ (n : Number). record { number = n; inputs = filled_of most_inputs no_input [] }) c.zero_number.ensures),
+    )
 
-pub taking_of-taking-requires : goal.taking_of-taking-requires
-taking_of-taking-requires c =
-    let laid : LaidOut (get_or c.args.pending.transactions c.loop-i.i past_end) =
-    laid_one c.args.pending.transactions c.args.pending.count c.loop-i.i c.loop-i.invariant.4 c.loop-i-test.true (omega (arith, c.loop-i-test.true, c.loop-i.invariant.1, c.loop-i.invariant.2))
+pub split_at-requires : goal.split_at-requires
+split_at-requires c =
+    parted_room inputs_of (input_of c.args.sets.now.own.now (state_of c.args.sets.now.utxo c.args.sets.now.expected c.args.sets.now.pending)) c.transactions-payment-items.result.now
+    c.loop-payment.payment-index past_end c.loop-payment-test.true _ (ap length c.inputs.ensures.inputs) c.loop-payment.rest.now c.loop-payment.invariant.0
+
+pub taking_of-requires-in-loop-payment : goal.taking_of-requires-in-loop-payment
+taking_of-requires-in-loop-payment c =
+    let f = input_of c.args.sets.now.own.now (state_of c.args.sets.now.utxo c.args.sets.now.expected c.args.sets.now.pending) in
+    let front =
+    parted_front inputs_of f c.transactions-payment-items.result.now c.loop-payment.payment-index past_end c.loop-payment-test.true _
+    (ap length c.inputs.ensures.inputs) c.loop-payment.rest.now c.loop-payment.invariant.0
     in
-    record { takes_bound = (omega (arith, laid.takes_fit, c.loop-i-test.true, c.loop-i.invariant.1, c.loop-i.invariant.6), laid.takes_fit); utxo_len = c.loop-i.invariant.3 }
+    omega (arith, ap length c.split_at.ensures.front, ap length front, length-map (inputs_of (get_or c.transactions-payment-items.result.now c.loop-payment.payment-index past_end)) f, c.inputs.ensures.most, ap length c.inputs.ensures.inputs)
 
-pub overflow_add-start : goal.overflow_add-start
-overflow_add-start c =
-    let laid : LaidOut (get_or c.args.pending.transactions c.loop-i.i past_end) =
-    laid_one c.args.pending.transactions c.args.pending.count c.loop-i.i c.loop-i.invariant.4 c.loop-i-test.true (omega (arith, c.loop-i-test.true, c.loop-i.invariant.1, c.loop-i.invariant.2))
-    in
-    record { fits = omega (arith, laid.takes_fit, c.loop-i-test.true, c.loop-i.invariant.1, c.loop-i.invariant.6) }
-
-pub loop-i-preserved : goal.loop-i-preserved
-loop-i-preserved c =
-    let within : c.loop-i.i < length c.args.pending.transactions = omega (arith, c.loop-i-test.true, c.loop-i.invariant.1, c.loop-i.invariant.2) in
-    let laid : LaidOut (get_or c.args.pending.transactions c.loop-i.i past_end) =
-    laid_one c.args.pending.transactions c.args.pending.count c.loop-i.i c.loop-i.invariant.4 c.loop-i-test.true within
+pub loop-payment-preserved : goal.loop-payment-preserved
+loop-payment-preserved c =
+    let s = state_of c.args.sets.now.utxo c.args.sets.now.expected c.args.sets.now.pending in
+    let f = input_of c.args.sets.now.own.now s in
+    let front =
+    parted_front inputs_of f c.transactions-payment-items.result.now c.loop-payment.payment-index past_end c.loop-payment-test.true _
+    (ap length c.inputs.ensures.inputs) c.loop-payment.rest.now c.loop-payment.invariant.0
     in (
-      omega (arith, c.loop-i-test.true),
-      c.loop-i.invariant.1,
-      c.loop-i.invariant.2,
-      c.loop-i.invariant.3,
-      c.loop-i.invariant.4,
-      omega (arith, c.loop-i.invariant.5, total_more (λ (t : Transaction). t.takes) c.args.pending.transactions c.loop-i.i past_end within),
-      omega (arith, laid.takes_fit, c.loop-i.invariant.6),
-      listed_turn most_payments no_taking
-          (taking_at c.args.pending.transactions c.standing_of-in_utxo.result.here c.standing_of-in_utxo.result.amounts
-          c.standing_of-in_expected.result.here c.standing_of-in_expected.result.amounts c.standing_of-in_made.result.here c.standing_of-in_own.result.amounts)
-          _ c.loop-i.i _ (omega (arith, c.loop-i-test.true, c.loop-i.invariant.1)) c.loop-i.invariant.7
-          (c.taking_of-taking.ensures
-          ∙ ap
-          (λ (k : ℕ).
-          taking_from (get_or c.args.pending.transactions c.loop-i.i past_end) k c.standing_of-in_utxo.result.here c.standing_of-in_utxo.result.amounts
-          c.standing_of-in_expected.result.here c.standing_of-in_expected.result.amounts c.standing_of-in_made.result.here c.standing_of-in_own.result.amounts)
-          c.loop-i.invariant.5),
+      c.split_at.ensures.back
+          ∙ parted_back inputs_of f c.transactions-payment-items.result.now c.loop-payment.payment-index past_end c.loop-payment-test.true _
+          (ap length c.inputs.ensures.inputs) c.loop-payment.rest.now c.loop-payment.invariant.0,
+      map_pushed _ _ (λ (t : Transaction). taking_of c.args.sets.now.own.now s (view_transaction t)) c.transactions-payment-items.result.now
+          c.loop-payment.payment-index past_end _ _ c.loop-payment.invariant.1 c.loop-payment-test.true c.transactions-payment-items.ensures.most
+          (c.push.ensures
+          ∙ ap (with_item c.loop-payment.takings)
+          (c.taking_of-in-loop-payment.ensures
+          ∙ ap (λ (l : List Input). record { number = (get_or c.transactions-payment-items.result.now c.loop-payment.payment-index past_end).number; inputs = filled_of most_inputs no_input l }) (c.split_at.ensures.front ∙ front))),
     )
 
 pub returns : goal.returns
 returns c =
-    takings_done c.args.own.now c.args.utxo c.args.expected c.args.pending c.requires c.loop-i.invariant.2
-    c.spent_of-slots.result c.made_of-made.result c.own_of.result
-    c.standing_of-in_utxo.result c.standing_of-in_expected.result c.standing_of-in_made.result c.standing_of-in_own.result
-    c.loop-i.taken c.loop-i.i
-    c.spent_of-slots.ensures c.made_of-made.ensures c.own_of.ensures
-    c.standing_of-in_utxo.ensures c.standing_of-in_expected.ensures c.standing_of-in_made.ensures c.standing_of-in_own.ensures
-    (omega (arith, c.loop-i-test.false, c.loop-i.invariant.0)) c.loop-i.invariant.7
+    let s = state_of c.args.sets.now.utxo c.args.sets.now.expected c.args.sets.now.pending in
+    all_taken _ _ (map (λ (t : Transaction). taking_of c.args.sets.now.own.now s (view_transaction t))) _ _ c.loop-payment.payment-index _ c.loop-payment.invariant.1
+    c.loop-payment-test.false c.transactions-payment-items.ensures.transactions
+    ∙ ap (filled_of most_payments no_taking) (sym (map-map (taking_of c.args.sets.now.own.now s) view_transaction (take c.args.sets.now.pending.count c.args.sets.now.pending.transactions)))

@@ -1,18 +1,9 @@
-use Prim.Native.Nat.{◌-◌}
-use mathlib.Core.Path.{refl, ap, ◌∙◌}
-use lib.Seq.{take_all}
-use Rattle.sets.specs.Fill.{filled}
-use Rattle.sets.specs.Placing.{take_turn}
-use borrow.Author.Rules.{rules}
+use Rattle.std.proofs.Common.{ℕ, List, [], ap, arith}
+use Rattle.fixed.specs.declared.Filled.{Filled}
+use Rattle.fixed.specs.Laws.{extend_more}
 use Rattle.wallet.proofs.bookings.own_array.Goals as goal
-
-pub loop-i-preserved : goal.loop-i-preserved
-loop-i-preserved c = (
-  search rules,
-  search rules,
-  take_turn 32 0 c.args.own.now c.loop-i.i 0 _ _ (search rules) (search rules) c.loop-i.invariant.2 refl,
-)
 
 pub returns : goal.returns
 returns c =
-    c.loop-i.invariant.2 ∙ ap (filled 32 0) (take_all c.loop-i.i c.args.own.now (search rules))
+    ap (λ (f : Filled ℕ 32). f.items)
+    (extend_more 32 0 [] c.args.own.now _ _ c.none-list.ensures (omega (arith, c.requires)) c.extend.ensures)

@@ -1,5 +1,0 @@
--- A payment after a rollback is what the rule makes of it.
-use Rattle.booking.proofs.marks.payment_back.Goals as goal
-
-pub returns : goal.returns
-returns c = cc

@@ -1,9 +1,0 @@
--- Row after row, as many as the head says.
-use Rattle.std.proofs.Common.{◌-◌}
-use Rattle.probe.proofs.events.last_wallet.Given as goal
-
-abbrev pub invariant-loop-i : goal.invariant-loop-i
-invariant-loop-i l = Unit {0}
-
-abbrev pub decreases-loop-i : goal.decreases-loop-i
-decreases-loop-i l = l.count - l.i

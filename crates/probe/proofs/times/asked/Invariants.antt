@@ -1,9 +1,0 @@
--- Turn after turn, as many as were asked for.
-use Rattle.std.proofs.Common.{◌-◌}
-use Rattle.probe.proofs.times.asked.Given as goal
-
-abbrev pub invariant-loop-i : goal.invariant-loop-i
-invariant-loop-i l = Unit {0}
-
-abbrev pub decreases-loop-i : goal.decreases-loop-i
-decreases-loop-i l = l.count - l.i

@@ -1,6 +1,0 @@
--- The part of the array that the count names.
-use Rattle.std.proofs.Common.{arith, length-take}
-use Rattle.readings.proofs.desk.opened.Goals as goal
-
-pub slice_bounds-open-end : goal.slice_bounds-open-end
-slice_bounds-open-end c = simp length-take (omega arith)
