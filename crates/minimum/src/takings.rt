@@ -41,7 +41,7 @@ pub(crate) struct Taking {
 }
 
 impl Taking {
-    pub fn inputs(&self) -> &[Input]
+    pub(crate) fn inputs(&self) -> &[Input]
         ensures inputs { result.now ≡ inputs_in self.now }
         ensures most { length result.now ≤ most_inputs }
     {
