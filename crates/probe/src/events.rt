@@ -1,7 +1,7 @@
 // A feed's events, one after another, each on the wallet that the one before it left.
 use feed::bodies::{Body, BodyRead};
 use rules::MOST_OWN;
-use wallet::{Step, Wallet};
+use wallet::{Refusal, Step, Wallet};
 
 // The wallet after an event, the place of a fault in its body, and the event's answer.
 #[derive(Clone, Copy)]
@@ -40,7 +40,7 @@ fn event(w: Wallet, read: BodyRead) -> Told {
         Body::Fault(place) => Told {
             wallet: w,
             fault: Some(place),
-            answer: 1,
+            answer: Refusal::NotShaped.number(),
         },
     }
 }
