@@ -4,7 +4,8 @@ use chain::{Block, Transaction};
 use rules::Number;
 use wallet::{Step, Wallet};
 
-// Stands in the place of an answer that refuses and does not give back the very wallet.
+// Stands in the place of an answer that refuses and does not give back the very wallet. A number, as the answers beside it
+// are: the line of a damage holds twelve.
 const NOT_THE_SAME: u32 = 99;
 
 // A well shaped transaction: one input, no output.

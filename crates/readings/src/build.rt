@@ -26,7 +26,8 @@ fn output_in(line: Line, place: usize) -> Output {
     }
 }
 
-// One more behind the first `count`; nothing where there is no place left.
+// One more behind the first `count`; nothing where there is no place left. An array with its count is how a transaction and a
+// block are laid out.
 fn push<T: Copy>(places: &mut [T], count: &mut usize, item: T) {
     if *count < places.len() {
         places[*count] = item;

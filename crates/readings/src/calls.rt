@@ -68,7 +68,7 @@ fn of_step(before: Wallet, came: Step) -> Call {
     }
 }
 
-// How many calls answered 9, and how many had nothing else to say.
+// How many calls answered 9, not sound, and how many had nothing else to say.
 pub(crate) fn nines(calls: &[Call]) -> usize {
     calls
         .iter()
