@@ -22,13 +22,7 @@ pub(crate) type Brings = Filled<Bring, MOST_REFERENCES>;
 pub(crate) fn no_bring() -> Bring
     ensures { result ≡ no_bring }
 {
-    Bring {
-        amount: 0,
-        hard: 0,
-        soft: 0,
-        owner: 0,
-        maker: 0,
-    }
+    Bring::default()
 }
 
 // A word with one mark more under it.
