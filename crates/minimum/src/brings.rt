@@ -40,8 +40,8 @@ pub(crate) fn word_of<T, F: Fn(&T) -> bool>(payments: &[T], test: F) -> u32
     ensures { (p : T → Bool) → ((x : _) (b : Bool) → F.post test x b → b ≡ p x.now) → result ≡ word_of p payments.now }
 {
     let mut word = 0;
-    for k in (0..payments.len()).rev() {
-        word = pushed(word, test(&payments[k]));
+    for payment in payments.iter().rev() {
+        word = pushed(word, test(payment));
     }
     word
 }
