@@ -44,7 +44,7 @@ fn held_good(held: &Held, limit: usize, own: &[u32]) -> bool
         && held.utxo & held.expected == 0
 }
 
-// Whether a place of the pool holds no payment. A derived default's contract has no equation for the arrays in it.
+// Whether a place of the pool holds no payment; `chain::no_transaction` has the laws of the arrays in it.
 fn no_payment(payment: &Payment) -> bool
     ensures { result ≡ no_payment payment.now }
 {
@@ -67,7 +67,7 @@ fn own_good(own: &[u32], unused: &[u32]) -> bool
     chain::good_own(own) && unused.iter().all(|a| *a == 0)
 }
 
-// The entries ascend by reference.
+// The entries ascend by reference; the payments below by number.
 fn entries_ascend(entries: &[Held]) -> bool
     ensures { result ≡ ascending before_held entries.now }
 {
@@ -127,7 +127,7 @@ fn payments_sound(w: &Pool) -> bool
     payments_good(w.payments(), &w.payments[w.paying..], limit_of(w.below))
 }
 
-// Two entries under one reference: the same address and amount.
+// Two entries under one reference: the same address and amount, two of an entry's three fields.
 fn same_value(a: &Entry, b: &Entry) -> bool
     ensures { result ≡ same_value a.now b.now }
 {

@@ -10,7 +10,7 @@ use std::io::Read;
 // So many bytes of standard input are looked at, at most.
 const MOST_BYTES: usize = 65_536;
 
-// One body's line: the paper's answer is 1 for a fault and else 0, the place of none is 0.
+// One body's line: the kind is document 01's number, the paper's answer is 1 for a fault and else 0, the place of none is 0.
 fn line(rt: &impl Print, kind: u8, bytes: &[u8]) -> io::Result<()> {
     let (answer, place) = match feed::bodies::read_body(kind, bytes).body {
         Body::Fault(place) => (1, place),
@@ -51,6 +51,7 @@ fn items(rt: &impl Print, list: &[u8]) -> io::Result<()> {
     Ok(())
 }
 
+// Read in each program: a library's function would be public, and no contract of one can say what an input gives.
 fn main(rt: HostRuntime) -> io::Result<()> {
     let mut buffer = [0u8; MOST_BYTES];
     let mut input = rt.stdin().take(MOST_BYTES as u64);

@@ -52,7 +52,7 @@ pub struct BodyRead {
     pub payment: Transaction,
 }
 
-// The empty own list; a derived Default's contract has no equation for an array.
+// The empty own list. With a derived default, whose contract speaks of each place, `nothing_beside` did not close.
 fn zero_own() -> Own
     ensures { result ≡ no_own }
 {
@@ -189,6 +189,7 @@ fn fault_or(answer: Answer, body: Body) -> Body
     }
 }
 
+// Each kind of body sets another field; what they share is `whole` and `counted`.
 #[tactic(auto, using(crate::specs::Whole::own_shown_lem))]
 fn own_body(bytes: &[u8]) -> BodyRead
     ensures { result ≡ body_read (read_body own_kind bytes.now) }

@@ -17,10 +17,11 @@ use rules::{LARGEST_AMOUNT, MOST_INPUTS, MOST_OUTPUTS, Output, Reference};
 // A reading's answer: the next place, or a fault's place.
 pub type Answer = Result<usize, Fault>;
 
-// An item's reading: what was read with the next place, or a fault's place.
+// An item's reading: what was read with the next place, or a fault's place. Each field's is taken apart by `let .. else`, as
+// document 01 asks, so no `?` hands a fault on.
 pub(crate) type Item<T> = Result<(T, usize), Fault>;
 
-// A reading: its answer, and beside it what was read, zeros at a fault.
+// A reading: its answer, and beside it in a struct what was read, as document 01 asks; zeros at a fault.
 #[derive(Clone, Copy)]
 pub struct Read<T> {
     pub answer: Answer,
@@ -90,7 +91,8 @@ pub(crate) fn read_output(bytes: &[u8], place: usize, last: Option<Output>) -> I
     Ok((output, next))
 }
 
-// So many items, one after another, each read in view of the one before it; zero in the other places.
+// So many items, one after another, each read in view of the one before it; zero in the other places. Written by place:
+// through `iter_mut` a proof knows no element.
 pub(crate) fn read_items<T: Copy, const N: usize, F: Fn(usize, Option<T>) -> Item<T>>(
     place: usize,
     count: usize,

@@ -156,7 +156,7 @@ fn is_row(feed: &[u8], n: usize) -> bool
     (1..=rows(feed)).contains(&n)
 }
 
-// A row's kind; 0 for a row that is not there.
+// A row's kind, document 01's number; 0 for a row that is not there.
 #[tactic(auto, unfolding(format::specs::Feed::row_kind))]
 pub fn kind(feed: &[u8], n: usize) -> u8
     ensures { result ≡ row_kind feed.now n }
@@ -165,7 +165,7 @@ pub fn kind(feed: &[u8], n: usize) -> u8
 }
 
 // A row's body, as a part of the feed, and in the lent number whether it was found. Of a refused feed, or for a row that is
-// not there, the empty part.
+// not there, the empty part. Part and number are what `row_determined` fixes.
 #[tactic(auto, unfolding(format::specs::Feed::row_body, format::specs::Feed::found))]
 pub fn row<'a>(feed: &'a [u8], n: usize, found: &mut u8) -> &'a [u8]
     ensures result_value { result.now ≡ row_body feed.now n }

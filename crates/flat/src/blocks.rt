@@ -91,7 +91,7 @@ fn push_slots(refs: &mut Refs, transaction: &Transaction)
     refs.extend(&transaction.inputs);
 }
 
-// The inputs of all payments, every place of each, used or not.
+// The inputs of all payments, every place of each, used or not. No crate asks for it today.
 pub fn slots_of(w: &Pool) -> Refs
     ensures { result ≡ refs_of (gather (λ p. p.transaction.inputs) (payments_of w.now)) }
 {
@@ -102,7 +102,8 @@ pub fn slots_of(w: &Pool) -> Refs
     slots
 }
 
-// The transactions of the payments that are pending in the present state, as a block.
+// The transactions of the payments that are pending in the present state, as a block. With the one above, two loops of four
+// lines: one over a closure would be no shorter.
 pub fn pending_block(w: &Pool) -> Block
     ensures { result ≡ block_of (map (λ p. p.transaction) (keep (λ p. marked 0 p.pending) (payments_of w.now))) }
 {

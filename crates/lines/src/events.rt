@@ -24,7 +24,7 @@ fn opened(own: Own) -> Step
     Wallet::open(&own.addresses[..own.count])
 }
 
-// An event's step. A fault in its body is answer 1: the wallet as it was, and movement 0.
+// An event's step; the kind is document 01's number. A fault in its body is answer 1: the wallet as it was, and movement 0.
 fn event(w: Wallet, kind: u8, bytes: &[u8]) -> Step
     requires { T (is_sound w) }
     ensures { Told (event_step (viewed w) (read_body kind bytes.now)) result }
@@ -81,6 +81,7 @@ pub(crate) fn put_events(feed: &[u8], text: &mut Text)
     ensures { text.new ≡ with_items text.old (text_to feed.now (count_in feed.now)) }
 {
     let mut w = unopened();
+    // i rows are done, as `text_to` counts them
     for i in 0..feed::rows::count_in(feed) {
         let n = i + 1;
         let kind = feed::rows::kind_in(feed, n);

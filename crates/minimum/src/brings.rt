@@ -22,13 +22,7 @@ pub(crate) type Brings = Filled<Bring, MOST_REFERENCES>;
 pub(crate) fn no_bring() -> Bring
     ensures { result ≡ no_bring }
 {
-    Bring {
-        amount: 0,
-        hard: 0,
-        soft: 0,
-        owner: 0,
-        maker: 0,
-    }
+    Bring::default()
 }
 
 // A word with one mark more under it.
@@ -46,8 +40,8 @@ pub(crate) fn word_of<T, F: Fn(&T) -> bool>(payments: &[T], test: F) -> u32
     ensures { (p : T → Bool) → ((x : _) (b : Bool) → F.post test x b → b ≡ p x.now) → result ≡ word_of p payments.now }
 {
     let mut word = 0;
-    for k in (0..payments.len()).rev() {
-        word = pushed(word, test(&payments[k]));
+    for payment in payments.iter().rev() {
+        word = pushed(word, test(payment));
     }
     word
 }

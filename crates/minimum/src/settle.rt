@@ -28,7 +28,8 @@ fn is_single(bring: &Bring) -> bool
     bring.hard.count_ones() == 1 && bring.soft == 0 && bring.owner == 0 && bring.maker == 0
 }
 
-// The rows, each raised by what it alone can bring.
+// The rows, each raised by what it alone can bring. They come by value, for the loop writes into them, and the clause
+// speaks of the rows as they came.
 fn settled_rows(mut rows: [Row; MOST_PAYMENTS], brings: &[Bring]) -> [Row; MOST_PAYMENTS]
     requires { SettleFit rows brings.now }
     ensures { result ≡ settled_rows brings.now rows }

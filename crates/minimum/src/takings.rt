@@ -104,6 +104,7 @@ fn inputs_of(sets: &Sets) -> Inputs
     let in_own = amounts_of(slots, flat::own_of(made, sets.own));
     let is_made = flat::found(slots, flat::made_refs(made));
     let mut inputs = Inputs::none(no_input());
+    // by the place: a zip of five lists would nest its pairs four deep
     for (i, reference) in slots.as_slice().iter().enumerate() {
         inputs.push(input_of(
             *reference,

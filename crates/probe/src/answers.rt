@@ -1,18 +1,12 @@
 // What every step and every query answers to a wallet.
 use alike::same_wallet;
 use chain::{Block, Transaction};
-use rules::{MOST_TRANSACTIONS, Number, Reference};
+use rules::Number;
 use wallet::{Step, Wallet};
 
-// Stands in the place of an answer that refuses and does not give back the very wallet.
+// Stands in the place of an answer that refuses and does not give back the very wallet. A number, as the answers beside it
+// are: the line of a damage holds twelve.
 const NOT_THE_SAME: u32 = 99;
-
-fn empty_block() -> Block {
-    Block {
-        transactions: [chain::zero_transaction(); MOST_TRANSACTIONS],
-        count: 0,
-    }
-}
 
 // A well shaped transaction: one input, no output.
 fn some_payment() -> Transaction {
@@ -33,7 +27,7 @@ fn of_step(before: Wallet, came: Step) -> u32 {
 // Block, payment and rollback; available, total, minimum, all three and held; UTxO, expected, available and pending.
 pub(crate) fn answers(w: Wallet) -> [u32; 12] {
     [
-        of_step(w, w.block(empty_block())),
+        of_step(w, w.block(Block::default())),
         of_step(w, w.pay(some_payment())),
         of_step(w, w.roll_back()),
         w.available().answer,

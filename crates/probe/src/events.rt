@@ -1,9 +1,9 @@
 // A feed's events, one after another, each on the wallet that the one before it left.
 use feed::bodies::{Body, BodyRead};
 use rules::MOST_OWN;
-use wallet::{Step, Wallet};
+use wallet::{Refusal, Step, Wallet};
 
-// The wallet after an event, the place of a fault in its body, and the event's answer.
+// The wallet after an event, the place of a fault in its body, and the event's answer: a number, as in document 01's steps.
 #[derive(Clone, Copy)]
 pub(crate) struct Told {
     pub wallet: Wallet,
@@ -22,12 +22,13 @@ impl From<Step> for Told {
     }
 }
 
-// The wallet before the first event: no own address, nothing held.
+// The wallet before the first event: no own address, nothing held. One line: a library's function would say no more.
 pub(crate) fn unopened() -> Wallet {
     Wallet::open(&[]).wallet
 }
 
-// An event whose body was read, or faulted: the wallet is then as it was.
+// An event whose body was read, or faulted: the wallet is then as it was. The same match is private to `lines`, where its
+// contract is about the sheet, which has no fault's place.
 fn event(w: Wallet, read: BodyRead) -> Told {
     match read.body {
         Body::Own => {
@@ -40,7 +41,7 @@ fn event(w: Wallet, read: BodyRead) -> Told {
         Body::Fault(place) => Told {
             wallet: w,
             fault: Some(place),
-            answer: 1,
+            answer: Refusal::NotShaped.number(),
         },
     }
 }

@@ -45,6 +45,7 @@ fn print_pending(rt: &impl Print, list: &Block) -> io::Result<()> {
     println!(rt; "pending{}", Payments(list.transactions()))
 }
 
+// The kind is document 01's number.
 fn kind_name(kind: u8) -> &'static str {
     match kind {
         1 => "own",
@@ -54,7 +55,7 @@ fn kind_name(kind: u8) -> &'static str {
     }
 }
 
-// Row, kind, the body's reading, its fault's place, answer, payments in the minimum, held states.
+// Row, kind (document 01's number), the body's reading, its fault's place, answer, payments in the minimum, held states.
 fn print_head(rt: &impl Print, n: usize, kind: u8, told: &Told) -> io::Result<()> {
     let kind = kind_name(kind);
     let reading = told.fault.is_some() as u8;

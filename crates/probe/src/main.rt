@@ -38,6 +38,7 @@ fn answer_input(rt: &impl Print, input: &[u8]) -> io::Result<()> {
     answer(rt, *mode, u32::from_le_bytes([*a, *b, *c, *d]), feed)
 }
 
+// Read in each program: a library's function would be public, and no contract of one can say what an input gives.
 fn main(rt: HostRuntime) -> io::Result<()> {
     let mut buffer = [0u8; MOST_INPUT];
     let mut input = rt.stdin().take(MOST_INPUT as u64);

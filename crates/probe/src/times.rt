@@ -3,19 +3,15 @@ use crate::events::{last_wallet, unopened};
 use lines::MOST_SHEET;
 use minimum::Least;
 use std::io;
-use wallet::Wallet;
+use wallet::{Refusal, Wallet};
 
-// The minimum so many times over. A sound wallet never gets the answer 9.
+// The minimum so many times over. A sound wallet is never refused as not sound.
 fn asked(sound: Wallet, count: u32) -> Least {
     let mut w = sound;
-    let mut least = Least {
-        answer: 0,
-        amount: 0,
-        payments: 0,
-    };
+    let mut least = Least::default();
     for _ in 0..count {
         least = minimum::minimum(w);
-        if least.answer == 9 {
+        if least.answer == Refusal::NotSound.number() {
             w = unopened();
         }
     }

@@ -3,7 +3,7 @@ ghost use Rattle.std.specs.Prelude.{◌≤◌};
 
 use crate::line::Line;
 use chain::{Block, Transaction};
-use rules::{MOST_INPUTS, MOST_OUTPUTS, MOST_TRANSACTIONS, Number, Output, Reference};
+use rules::{MOST_INPUTS, MOST_OUTPUTS, Number, Output, Reference};
 
 // The most lines that a block has: as many transactions as it can hold, and one more that changes it.
 const MOST_LINES: usize = 17;
@@ -26,7 +26,8 @@ fn output_in(line: Line, place: usize) -> Output {
     }
 }
 
-// One more behind the first `count`; nothing where there is no place left.
+// One more behind the first `count`; nothing where there is no place left. An array with its count is how a transaction and a
+// block are laid out.
 fn push<T: Copy>(places: &mut [T], count: &mut usize, item: T) {
     if *count < places.len() {
         places[*count] = item;
@@ -127,10 +128,7 @@ fn add_line(block: &mut Block, line: Line) {
 
 // The block of the indented lines that follow a line.
 pub(crate) fn block_below(line: Line) -> Block {
-    let mut block = Block {
-        transactions: [chain::zero_transaction(); MOST_TRANSACTIONS],
-        count: 0,
-    };
+    let mut block = Block::default();
     let indented = line.below().take_while(|below| below.letter(0) == b' ');
     for below in indented.take(MOST_LINES) {
         add_line(&mut block, below);

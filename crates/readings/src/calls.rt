@@ -3,7 +3,7 @@ use crate::build::{block_below, transaction_in};
 use crate::line::Line;
 use alike::{no_entries, no_payments, same_wallet};
 use minimum::{Least, ThreeBalances};
-use wallet::{Amount, Listed, Pending, Step, Wallet};
+use wallet::{Amount, Listed, Pending, Refusal, Step, Wallet};
 
 // What a call answered, and whether it had nothing else to say: no movement and the same wallet, no amount, no list.
 #[derive(Clone, Copy)]
@@ -68,9 +68,12 @@ fn of_step(before: Wallet, came: Step) -> Call {
     }
 }
 
-// How many calls answered 9, and how many had nothing else to say.
+// How many calls answered 9, not sound, and how many had nothing else to say.
 pub(crate) fn nines(calls: &[Call]) -> usize {
-    calls.iter().filter(|call| call.answer == 9).count()
+    calls
+        .iter()
+        .filter(|call| call.answer == Refusal::NotSound.number())
+        .count()
 }
 
 pub(crate) fn still(calls: &[Call]) -> usize {

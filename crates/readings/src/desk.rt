@@ -19,6 +19,7 @@ const PLACES: usize = 8;
 pub(crate) struct Desk {
     pub last: Step,
     pub before: Wallet,
+    // an array: memory is fixed, and each place can be written at any time
     kept: [Wallet; PLACES],
 }
 

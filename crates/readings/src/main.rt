@@ -37,6 +37,7 @@ fn run(rt: &impl Print, text: &[u8]) -> io::Result<()> {
     Ok(())
 }
 
+// Read in each program: a library's function would be public, and no contract of one can say what an input gives.
 fn main(rt: HostRuntime) -> io::Result<()> {
     let mut buffer = [0u8; MOST_INPUT];
     let mut input = rt.stdin().take(MOST_INPUT as u64);

@@ -18,6 +18,7 @@ fn input() -> [u8; MOST_INPUT]
     [0; MOST_INPUT]
 }
 
+// Read in each program: a library's function would be public, and no contract of one can say what an input gives.
 fn main(rt: HostRuntime) -> io::Result<()> {
     let mut feed = input();
     let mut from = rt.stdin().take(MOST_INPUT as u64);

@@ -3,7 +3,7 @@
 #![tactic(auto)]
 
 // Of a pending payment: what it takes and adds, the payments it cannot go with, and the payments it cannot go without.
-#[derive(Clone, Copy)]
+#[derive(Clone, Copy, Default)]
 pub struct Row {
     pub takes: u64,
     pub adds: u64,
@@ -13,7 +13,7 @@ pub struct Row {
 
 // Of an expected entry: its amount; the payments that bring it for certain, and those that bring it unless its owner is
 // chosen; the payment of its number, and the payment that makes it.
-#[derive(Clone, Copy)]
+#[derive(Clone, Copy, Default)]
 pub struct Bring {
     pub amount: u64,
     pub hard: u32,

@@ -49,6 +49,7 @@ pub(crate) fn block_answer(w: Pool, b: Block) -> Result<(), Refusal>
     if any_among(made, balance::utxo_of(w)) {
         return Err(Refusal::AlreadyUnspent);
     }
+    // `|` asks both, so that one fact comes of it
     if !audit::outputs_agree(made, &w) | !payments_agree(&w, &b) {
         return Err(Refusal::Contradicts);
     }

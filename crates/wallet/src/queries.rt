@@ -17,7 +17,7 @@ pub(crate) fn told<T: Copy>(sound: bool, value: T, nothing: T) -> (u32, T)
     }
 }
 
-// The empty block. A derived default does not say of the array what it holds.
+// The empty block, as `block_of` fills it.
 pub(crate) fn no_payment() -> Block
     ensures { result ≡ block_of [] }
 {
