@@ -1,5 +1,4 @@
 pub mod Audit
 pub mod AuditLaws
-pub mod Rising
 pub mod Apart
 pub mod Agreement

@@ -4,8 +4,9 @@ use Rattle.std.proofs.Common.{ap, sym, ◌∙◌, arith, length-append, length-t
 use Rattle.std.proofs.lemmas.List.{length-map, take_more}
 use borrow.Author.Tests.{tests}
 use Rattle.sets.specs.Sets.{keep, gather}
-use Rattle.sets.specs.Laws.{keep-length, keep_append, gather_append}
+use Rattle.sets.specs.Laws.{keep-length, gather_append}
 use Rattle.sets.specs.Fill.{filled_next, filled_first, one, map_more, keep_more, map-keep_more}
+use Rattle.sets.specs.Placing.{keep-map_more}
 use Rattle.fixed.specs.declared.Filled.{Filled}
 use Rattle.fixed.specs.Filled.{filled_of, items_in, with_item, with_items}
 
@@ -86,12 +87,6 @@ module _ {A B : Type 0} where
       (map-keep_more f p l i d h ∙ ap (λ (b : Bool). map f (keep p (take i l)) ++ one b (f (get_or l i d))) fails)
 
   -- a turn of a loop that works out what each member gives, and pushes it where a test holds of that
-  keep-map_more :
-      (p : B → Bool) (f : A → B) (l : List A) (i : ℕ) (d : A) → i < length l →
-      keep p (map f (take (i + 1) l)) ≡ keep p (map f (take i l)) ++ one (p (f (get_or l i d))) (f (get_or l i d))
-  keep-map_more p f l i d h =
-      ap (keep p) (map_more f l i d h) ∙ keep_append p (map f (take i l)) (f (get_or l i d) ∷ [])
-
   pub keep-map_pushed :
       (n : ℕ) (z : B) (p : B → Bool) (f : A → B) (l : List A) (i : ℕ) (d : A) (old new : Filled B n) →
       old ≡ filled_of n z (keep p (map f (take i l))) → i < length l → length l ≤ n → p (f (get_or l i d)) ≡ true →

@@ -1,4 +1,3 @@
 pub mod Filled
 pub mod Laws
 pub mod Promises
-pub mod Rising

@@ -1,12 +1,9 @@
 use Rattle.std.proofs.Common.{rules}
-use Rattle.std.proofs.lemmas.List.Sorted.{answers_always}
 use Rattle.rules.specs.Chain.{before_number, same_number}
 use Rattle.pool.specs.Good.{before_held}
-use Rattle.audit.specs.Rising.{rising}
+use Rattle.chain.specs.Rising.{rises}
 use Rattle.audit.proofs.entries_ascend.Goals as goal
 
 pub returns : goal.returns
 unfolding before_number same_number
-returns c =
-    rising before_held c.args.entries.now c.is_sorted_by.result
-    (c.is_sorted_by.ensures.cases before_held (answers_always _ _ _ (λ f a r g k. search rules)))
+returns c = rises before_held c.args.entries.now _ c.is_sorted_by.ensures.cases (λ f a r g k. search rules)
