@@ -161,19 +161,19 @@ same_places e same one (x ∷ l) (y ∷ m) = rw (one x y, same_places e same one
 
 -- of two payments
 pub same_payments :
-    {e : Reference → Reference → Bool} {f : Output → Output → Bool} (a b : Payment) →
-    ((x y : Reference) → e x y ≡ same_reference x y) → ((x y : Output) → f x y ≡ same_output x y) →
-    ((eqb a.transaction.number.serial b.transaction.number.serial
+    {number : Bool} {e : Reference → Reference → Bool} {f : Output → Output → Bool} (a b : Payment) →
+    number ≡ same_number a.transaction.number b.transaction.number → ((x y : Reference) → e x y ≡ same_reference x y) → ((x y : Output) → f x y ≡ same_output x y) →
+    ((number
     && (pointwise e a.transaction.inputs b.transaction.inputs
     && (eqb a.transaction.takes b.transaction.takes
     && (pointwise f a.transaction.outputs b.transaction.outputs && eqb a.transaction.makes b.transaction.makes))))
     && eqb a.pending b.pending)
     ≡ alike_payment a b
-unfolding same_number same_struct
-same_payments {e = e} {f} a b p q =
+unfolding same_struct
+same_payments {e = e} {f} a b n p q =
     let inputs = same_places e same_reference p a.transaction.inputs b.transaction.inputs in
     let outputs = same_places f same_output q a.transaction.outputs b.transaction.outputs in
-    grind (arith, inputs, outputs)
+    grind (arith, n, inputs, outputs)
 
 -- of two pools
 pub same_pools :

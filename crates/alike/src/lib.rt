@@ -3,7 +3,7 @@
 #![tactic(auto)]
 
 ghost use Rattle.std.specs.Prelude.{◌≡◌};
-ghost use Rattle.alike.specs.Alike.{alike, no_entries, no_payments};
+ghost use Rattle.alike.specs.Alike.{alike, no_entries, no_entry, no_payments};
 
 use chain::Block;
 use flat::Made;
@@ -17,11 +17,20 @@ pub fn same_wallet(w: Wallet, v: Wallet) -> bool
     w.pool == v.pool
 }
 
+// Whether a place of a list holds no entry.
+fn no_entry(entry: &Entry) -> bool
+    ensures { result ≡ no_entry entry.now }
+{
+    chain::same_reference(entry.reference, chain::zero_reference())
+        && entry.address == 0
+        && entry.amount == 0
+}
+
 // Whether a list of entries, or of payments, has the count 0 and nothing in any place.
 pub fn no_entries(list: Made) -> bool
     ensures { result ≡ no_entries list }
 {
-    list.items.iter().all(|e| *e == Entry::default()) && list.count == 0
+    list.items.iter().all(|e| no_entry(e)) && list.count == 0
 }
 
 pub fn no_payments(list: Block) -> bool

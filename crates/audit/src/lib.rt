@@ -25,11 +25,14 @@ fn limit_of(below: usize) -> usize
 }
 
 // Whether a place of the pool holds no entry.
-#[tactic(auto, unfolding(rules::specs::Chain::same_number))]
 fn no_held(held: &Held) -> bool
     ensures { result ≡ no_held held.now }
 {
-    *held == Held::default()
+    chain::no_reference(held.entry.reference)
+        && held.entry.address == 0
+        && held.entry.amount == 0
+        && held.utxo == 0
+        && held.expected == 0
 }
 
 // Whether an entry of the pool is good.
@@ -71,7 +74,7 @@ fn own_good(own: &[u32], unused: &[u32]) -> bool
 fn entries_ascend(entries: &[Held]) -> bool
     ensures { result ≡ ascending before_held entries.now }
 {
-    entries.is_sorted_by(|a, b| a.entry.reference < b.entry.reference)
+    entries.is_sorted_by(|a, b| chain::before_reference(a.entry.reference, b.entry.reference))
 }
 
 // The entries: nothing behind them, ascending by reference, and good.
@@ -87,7 +90,7 @@ fn entries_good(entries: &[Held], unused: &[Held], limit: usize, own: &[u32]) ->
 fn payments_ascend(payments: &[Payment]) -> bool
     ensures { result ≡ ascending before_payment payments.now }
 {
-    payments.is_sorted_by(|a, b| a.transaction.number < b.transaction.number)
+    payments.is_sorted_by(|a, b| chain::before_number(a.transaction.number, b.transaction.number))
 }
 
 // The payments: nothing behind them, ascending by number, and good. All three tests differ from those of the entries.

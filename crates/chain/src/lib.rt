@@ -57,8 +57,8 @@ impl Block {
     }
 }
 
-// A transaction number goes through its own type, rules' Number, with that type's equality and order, so that its width
-// can change in one place.
+// The two tests of a transaction number, by its own equality and order. Whatever compares numbers or references goes through
+// them, so that the width of a number can change in one place.
 #[tactic(auto, unfolding(rules::specs::Chain::same_number))]
 pub fn same_number(m: Number, n: Number) -> bool
     ensures { result ≡ same_number m n }
@@ -105,25 +105,22 @@ pub fn zero_transaction() -> Transaction
     Transaction::default()
 }
 
-#[tactic(auto, unfolding(rules::specs::Chain::same_number))]
 pub fn same_reference(r: Reference, s: Reference) -> bool
     ensures { result ≡ same_reference r s }
 {
-    r == s
+    same_number(r.number, s.number) && r.index == s.index
 }
 
-#[tactic(auto, unfolding(rules::specs::Chain::same_number, rules::specs::Chain::before_number))]
 pub fn before_reference(r: Reference, s: Reference) -> bool
     ensures { result ≡ before_reference r s }
 {
-    r < s
+    before_number(r.number, s.number) || same_number(r.number, s.number) && r.index < s.index
 }
 
-#[tactic(auto, unfolding(rules::specs::Chain::same_number))]
 pub fn no_reference(r: Reference) -> bool
     ensures { result ≡ no_reference r }
 {
-    r == Reference::default()
+    no_number(r.number) && r.index == 0
 }
 
 pub fn same_output(o: Output, p: Output) -> bool
@@ -135,7 +132,7 @@ pub fn same_output(o: Output, p: Output) -> bool
 pub fn no_output(o: Output) -> bool
     ensures { result ≡ no_output o }
 {
-    o == Output::default()
+    same_output(o, zero_output())
 }
 
 // Whether a count fits its places, and nothing stands in the places behind it.
@@ -155,11 +152,10 @@ fn laid_out(t: &Transaction) -> bool
 }
 
 // Whether there are enough inputs, and they ascend.
-#[tactic(auto, unfolding(rules::specs::Chain::same_number, rules::specs::Chain::before_number))]
 fn inputs_shaped(inputs: &[Reference]) -> bool
     ensures { result ≡ (leb fewest_inputs (length inputs.now) && ascending before_reference inputs.now) }
 {
-    FEWEST_INPUTS <= inputs.len() && inputs.is_sorted_by(|a, b| a < b)
+    FEWEST_INPUTS <= inputs.len() && inputs.is_sorted_by(|a, b| before_reference(*a, *b))
 }
 
 // Whether the outputs ascend by index, and none is over the limit.
@@ -202,12 +198,11 @@ pub fn no_transaction(t: Transaction) -> bool
 }
 
 // Whether transactions are good, and ascend by number.
-#[tactic(auto, unfolding(rules::specs::Chain::before_number))]
 fn transactions_good(transactions: &[Transaction]) -> bool
     ensures { result ≡ (all good_transaction transactions.now && ascending before_struct transactions.now) }
 {
     transactions.iter().all(|t| good_transaction(*t))
-        && transactions.is_sorted_by(|s, t| s.number < t.number)
+        && transactions.is_sorted_by(|s, t| before_number(s.number, t.number))
 }
 
 // Whether a block is laid out and shaped as the paper says.

@@ -1,23 +1,21 @@
 -- What the library's two searches answer of a list of references: the place of the first same one, or the length.
-use Rattle.std.specs.Prelude.{ℕ, zero, suc, ◌+◌, ◌≤◌, ◌<◌, ◌≡◌, refl, ◌⊎◌, Bool, true, false, not, cond, List, [], ◌∷◌, T, eqb, ltb, length, get_or}
+use Rattle.std.specs.Prelude.{ℕ, zero, suc, ◌+◌, ◌≤◌, ◌<◌, ◌≡◌, refl, Bool, true, false, not, cond, List, [], ◌∷◌, T, ltb, length, get_or}
 use Rattle.std.specs.declared.cmp.Ordering.{Ordering}
 use Rattle.std.specs.List.{position_or_len}
 use Rattle.std.specs.List.Sorted.{IsBinarySearchResult, IsNonDecreasingBy, IsPartitionPoint, IsSearchInRange}
 use Rattle.std.specs.Option.{unwrap_or}
-use Rattle.std.specs.Ordering.{nat_cmp, ordering_then, ordering_index}
+use Rattle.std.specs.Ordering.{ordering_index}
 use Rattle.std.specs.Result.{result_unwrap_or}
-use Rattle.std.proofs.Common.{sym, ap, subst, ◌∙◌, ⊎_elim, arith, not-suc-le-zero, le_of_suc-le-suc, Result, inl, inr, Some, None, Ok, Err, Less, Equal, Greater, ltb→lt, nltb→le}
+use Rattle.std.proofs.Common.{sym, subst, ◌∙◌, ⊎_elim, arith, not-suc-le-zero, le_of_suc-le-suc, Result, Some, None, Ok, Err, Less, Equal, Greater, ltb→lt, nltb→le}
 use Rattle.std.proofs.Math.Dec.{not_T}
 use Rattle.std.proofs.lemmas.List.Recursion.{is_position_or_len}
-use borrow.Author.Tests.{tests}
 use Rattle.sets.specs.Sets.{has, ascending}
 use Rattle.sets.specs.Count.{member_at}
 use Rattle.sets.specs.Order.{ascending_first, ascending_tail}
-use Rattle.sets.specs.Tests.{T-cases, equal_holds, and_both}
-use Rattle.rules.specs.declared.Number.{Number}
+use Rattle.sets.specs.Tests.{T-cases, cond_true, cond_false}
 use Rattle.rules.specs.declared.Reference.{Reference}
-use Rattle.rules.specs.Chain.{same_number, before_number, same_reference, before_reference}
-use Rattle.rules.specs.ChainLaws.{same_reference_eq, before_reference_trans, before_reference_cases}
+use Rattle.rules.specs.Chain.{same_reference, before_reference}
+use Rattle.rules.specs.ChainLaws.{same_reference_eq, same_reference_sym, before_reference_trans, before_reference_never}
 use Rattle.chain.specs.View.{zero_reference}
 use Rattle.flat.specs.Flat.{seek}
 use Rattle.flat.specs.SeekLaws.{seek_most, seek_found, seek_at, seek_none, seek_one}
@@ -43,40 +41,40 @@ by_turns r l =
 
 -- ── by halves, in a list that ascends
 
--- references in order: by number, then index
+-- a reference beside the one that is sought: before it, the same, or neither
 abbrev by_reference : Reference → Reference → Ordering
-by_reference y r = ordering_then (nat_cmp y.number.serial r.number.serial) (nat_cmp y.index r.index)
+by_reference y r = cond (before_reference y r) Less (cond (same_reference y r) Equal Greater)
 
-level : (a c i k : ℕ) → ordering_then (nat_cmp a c) (nat_cmp i k) ≡ Equal → (a ≡ c) × (i ≡ k)
-level a c i k h = grind (arith, tests)
-
-equal : (a i : ℕ) → ordering_then (nat_cmp a a) (nat_cmp i i) ≡ Equal
-equal a i = grind (arith, tests)
-
-higher :
-    (a b c i j k : ℕ) → (a < b) ⊎ ((a ≡ b) × (i < j)) →
-    ordering_index (ordering_then (nat_cmp a c) (nat_cmp i k)) ≤ ordering_index (ordering_then (nat_cmp b c) (nat_cmp j k))
-higher a b c i j k h = ⊎_elim (λ h. grind (arith, tests)) (λ h. grind (arith, tests, h.0, h.1)) h
+equal_same : (before same : Bool) → cond before Less (cond same Equal Greater) ≡ Equal → T same
+equal_same true same h = cc
+equal_same false true h = tt
+equal_same false false h = cc
 
 same_of : (y r : Reference) → by_reference y r ≡ Equal → T (same_reference r y)
-unfolding same_number
-same_of y r e =
-    let both : (y.number.serial ≡ r.number.serial) × (y.index ≡ r.index) = level y.number.serial r.number.serial y.index r.index e in
-    and_both (same_number r.number y.number) (eqb r.index y.index)
-    (equal_holds r.number.serial y.number.serial (sym both.0))
-    (equal_holds r.index y.index (sym both.1))
+same_of y r e = same_reference_sym y r (equal_same (before_reference y r) (same_reference y r) e)
 
 of_same : (y r : Reference) → T (same_reference r y) → by_reference y r ≡ Equal
-of_same y r t = subst (λ (x : Reference). by_reference x r ≡ Equal) (same_reference_eq r y t) (equal r.number.serial r.index)
+of_same y r t =
+    let s = same_reference_sym r y t in
+    cond_false (before_reference y r) Less (cond (same_reference y r) Equal Greater)
+    (not_T (before_reference y r) (before_reference_never y r s))
+    ∙ cond_true (same_reference y r) Equal Greater s
+
+-- where each that is not lower is neither before nor the same
+lower :
+    (b s c t : Bool) → (T c → T b) → (T t → T b) →
+    ordering_index (cond b Less (cond s Equal Greater)) ≤ ordering_index (cond c Less (cond t Equal Greater))
+lower true s c t f g = omega arith
+lower false s true t f g = absurd (f tt)
+lower false s false true f g = absurd (g tt)
+lower false true false false f g = omega arith
+lower false false false false f g = omega arith
 
 before_higher : (x y r : Reference) → T (before_reference x y) → ordering_index (by_reference x r) ≤ ordering_index (by_reference y r)
-unfolding before_number
 before_higher x y r t =
-    higher x.number.serial y.number.serial r.number.serial x.index y.index r.index
-    (⊎_elim
-    (λ (h : T (before_number x.number y.number)). inl (ltb→lt x.number.serial y.number.serial h))
-    (λ (h : (x.number ≡ y.number) × (x.index < y.index)). inr (ap (λ (n : Number). n.serial) h.0, h.1))
-    (before_reference_cases x y t))
+    lower (before_reference x r) (same_reference x r) (before_reference y r) (same_reference y r)
+    (λ (h : T (before_reference y r)). before_reference_trans x y r t h)
+    (λ (h : T (same_reference y r)). subst (λ (z : Reference). T (before_reference x z)) (same_reference_eq y r h) t)
 
 -- what stands later is no lower
 no_lower : (r : Reference) (l : List Reference) → T (ascending before_reference l) → IsNonDecreasingBy (λ y. ordering_index (by_reference y r)) l

@@ -12,7 +12,7 @@ use rules::Reference;
 fn rises(refs: &[Reference]) -> bool
     ensures { result ≡ ascending before_reference refs.now }
 {
-    refs.is_sorted_by(|a, b| a < b)
+    refs.is_sorted_by(|a, b| chain::before_reference(*a, *b))
 }
 
 // The place of the first same reference, or the count where there is none, in a list that ascends: by halves.
@@ -27,7 +27,9 @@ fn place_by_halves(r: &Reference, refs: &[Reference]) -> usize
 fn place_by_turns(r: &Reference, refs: &[Reference]) -> usize
     ensures { result ≡ seek r.now refs.now }
 {
-    refs.iter().position(|x| r == x).unwrap_or(refs.len())
+    refs.iter()
+        .position(|x| chain::same_reference(*r, *x))
+        .unwrap_or(refs.len())
 }
 
 // The places of some references in a list, each by the same search.

@@ -1,20 +1,20 @@
 -- A laid out pool, taken apart into plain facts and put together again; the two parts of a good one; and a pool with
 -- other places, as every booking makes it.
-use Rattle.std.specs.Prelude.{◌≡◌, Bool, ◌&&◌, List, [], ◌∷◌, ℕ, suc, ◌-◌, ◌≤◌, T, eqb, leb, length, take, drop}
+use Rattle.std.specs.Prelude.{◌≡◌, Bool, true, ◌&&◌, List, [], ◌∷◌, ℕ, suc, ◌-◌, ◌≤◌, T, eqb, leb, length, take, drop}
 use Rattle.std.proofs.Common.{sym, subst, arith, eqb→eq, leb→le, le→leb, length-take-le}
 use Rattle.sets.specs.Sets.{all, ascending}
 use Rattle.sets.specs.Tests.{equal_holds, and_left, and_right, and_both, every_at}
 use Rattle.sets.specs.Walks.{every_holds}
 use Rattle.sets.specs.Fill.{filled-length, filled_first, filled_rest}
 use Rattle.rules.specs.Sizes.{most_own, most_states, most_payments, most_references}
-use Rattle.rules.specs.Chain.{same_number}
+use Rattle.rules.specs.ChainLaws.{same_reference_refl}
 use Rattle.rules.specs.Sound.{sound}
 use Rattle.soundness.specs.Facts.{Sound, sound_facts}
-use Rattle.chain.specs.View.{no_reference, no_transaction}
+use Rattle.chain.specs.View.{zero_reference, zero_transaction, no_reference, no_transaction}
 use Rattle.pool.specs.declared.Held.{Held}
 use Rattle.pool.specs.declared.Payment.{Payment}
 use Rattle.pool.specs.declared.Pool.{Pool}
-use Rattle.chain.specs.ViewLaws.{no_reference_zero, no_transaction_zero}
+use Rattle.chain.specs.ViewLaws.{no_reference_zero, no_transaction_zero, zero_no_transaction}
 use Rattle.pool.specs.Book.{zero_held, zero_payment, with_pool}
 use Rattle.pool.specs.View.{entries_of, payments_of, view_of, view}
 use Rattle.pool.specs.Good.{no_held, no_payment, before_held, before_payment, held_fits, payment_fits, laid_out, good}
@@ -177,12 +177,18 @@ payments_counted w f = length-take-le w.paying w.payments (omega (arith, f.payme
 -- ── a pool with other places
 
 pub zero_held_lem : T (no_held zero_held)
-unfolding same_number
-zero_held_lem = tt
+zero_held_lem =
+    let none = no_reference zero_reference in
+    and_both (none && true && true && true) true
+    (and_both (none && true && true) true
+    (and_both (none && true) true
+    (and_both none true (same_reference_refl zero_reference) tt)
+    tt)
+    tt)
+    tt
 
 pub zero_payment_lem : T (no_payment zero_payment)
-unfolding same_number no_transaction
-zero_payment_lem = tt
+zero_payment_lem = and_both (no_transaction zero_transaction) true zero_no_transaction tt
 
 -- it is read as these entries and payments are
 pub pool_view : (w : Pool) (n : ℕ) (es : List Held) (ps : List Payment) → view (with_pool w n es ps) ≡ view_of (take w.owns w.own) n es ps

@@ -1,7 +1,8 @@
 -- Sameness and order of numbers, references, outputs and transactions: sameness is equality (of entries: of their
 -- references), and the orders are strict and total.
-use Rattle.std.specs.Prelude.{◌≡◌, ◌⊎◌, not, ◌&&◌, ℕ, ◌<◌, T, eqb, ltb}
-use Rattle.std.proofs.Common.{sym, subst, ◌∙◌, inl, inr, ⊎_elim, arith, T_not, eqb→eq, ltb→lt, nltb→le, lt→ltb}
+use Rattle.std.specs.Prelude.{◌≡◌, refl, ◌⊎◌, Bool, true, false, not, cond, ◌&&◌, ◌||◌, ℕ, ◌<◌, T, eqb, ltb}
+use Rattle.std.specs.Ordering.{nat_cmp, ordering_then}
+use Rattle.std.proofs.Common.{Less, Equal, Greater, sym, subst, ◌∙◌, inl, inr, ⊎_elim, arith, T_not, eqb→eq, ltb→lt, nltb→le, lt→ltb}
 use Rattle.std.proofs.Math.Dec.{eqb_refl}
 use Rattle.sets.specs.Sets.{same_list}
 use Rattle.sets.specs.Laws.{same_list_refl, same_list_eq}
@@ -39,6 +40,11 @@ before_number_total a b s t =
 -- equal numbers are the same
 pub same_number_of : {a b : Number} → a ≡ b → T (same_number a b)
 same_number_of {a} e = subst (λ (n : Number). T (same_number a n)) e (same_number_refl a)
+
+-- what `==` of two numbers compares
+pub number_equal : (a b : Number) → eqb a.serial b.serial ≡ same_number a b
+unfolding same_number
+number_equal a b = refl
 
 -- ── references
 
@@ -137,6 +143,26 @@ before_reference_one a b n =
         (eqb_refl a.index)))))
         (T-cases (ltb b.index a.index)))
         (T-cases (ltb a.index b.index))
+
+-- what `==` of two references compares, and what `cmp` answers
+pub reference_equal : (a b : Reference) → (eqb a.number.serial b.number.serial && eqb a.index b.index) ≡ same_reference a b
+reference_equal a b = λ i. number_equal a.number b.number i && eqb a.index b.index
+
+one_then_other :
+    (lower same under level : Bool) →
+    ordering_then (cond lower Less (cond same Equal Greater)) (cond under Less (cond level Equal Greater))
+    ≡ cond (lower || same && under) Less (cond (same && level) Equal Greater)
+one_then_other true same under level = refl
+one_then_other false true under level = refl
+one_then_other false false under level = refl
+
+pub reference_order :
+    (a b : Reference) →
+    ordering_then (nat_cmp a.number.serial b.number.serial) (nat_cmp a.index b.index)
+    ≡ cond (before_reference a b) Less (cond (same_reference a b) Equal Greater)
+unfolding same_number before_number
+reference_order a b =
+    one_then_other (before_number a.number b.number) (same_number a.number b.number) (ltb a.index b.index) (eqb a.index b.index)
 
 -- ── outputs and transactions
 

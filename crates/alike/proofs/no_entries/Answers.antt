@@ -2,12 +2,10 @@
 use Rattle.std.proofs.Common.{rules, tests, arith}
 use Rattle.std.proofs.lemmas.Iterator.{YieldsList-from_slice}
 use Rattle.std.proofs.lemmas.Iterator.Search.{all_from_yields_List}
-use Rattle.rules.specs.Chain.{same_number}
 use Rattle.alike.specs.Alike.{no_entry}
 use Rattle.alike.proofs.no_entries.Goals as goal
 
 pub returns-then-all : goal.returns-then-all
-unfolding same_number
 returns-then-all c =
     let empty =
     all_from_yields_List no_entry _ _ c.all.result c.all.ensures.ran
@@ -16,7 +14,6 @@ returns-then-all c =
     grind (arith, empty)
 
 pub returns-else-all : goal.returns-else-all
-unfolding same_number
 returns-else-all c =
     let empty =
     all_from_yields_List no_entry _ _ c.all.result c.all.ensures.ran

@@ -1,9 +1,7 @@
 use Rattle.std.proofs.Common.{rules}
-use Rattle.rules.specs.Chain.{before_number, same_number}
 use Rattle.pool.specs.Good.{before_payment}
 use Rattle.chain.specs.Rising.{rises}
 use Rattle.audit.proofs.payments_ascend.Goals as goal
 
 pub returns : goal.returns
-unfolding before_number same_number
 returns c = rises before_payment c.args.payments.now _ c.is_sorted_by.ensures.cases (λ f a r g k. search rules)

@@ -2,12 +2,11 @@ use Rattle.std.proofs.Common.{rules, tests, ap, ◌∙◌, length}
 use Rattle.std.proofs.lemmas.Iterator.{YieldsList-from_slice}
 use Rattle.std.proofs.lemmas.Iterator.Search.{position_from_yields_List}
 use Rattle.std.specs.Option.{unwrap_or}
-use Rattle.rules.specs.Chain.{same_reference, same_number}
+use Rattle.rules.specs.Chain.{same_reference}
 use Rattle.flat.specs.Searches.{by_turns}
 use Rattle.flat.proofs.seek.place_by_turns.Goals as goal
 
 pub returns : goal.returns
-unfolding same_number
 returns c =
     c.unwrap_or.ensures
     ∙ ap (λ p. unwrap_or p (length c.args.refs.now))
