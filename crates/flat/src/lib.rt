@@ -15,7 +15,7 @@ mod seek;
 
 pub use crate::blocks::{made_of, payments_block, pending_block, slots_of, spent_of};
 pub use crate::lists::{held_refs, made_refs, own_of};
-pub use crate::seek::{found, sought};
+pub use crate::seek::{found, sought, turn};
 
 // References, entries, places in another list, or whether each of some references was found.
 pub type Refs = Filled<Reference, MOST_REFERENCES>;

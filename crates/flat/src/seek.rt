@@ -1,5 +1,5 @@
 // Where each reference of one list stands in another.
-ghost use Rattle.std.specs.Prelude.{map, ◌≡◌, T, ℕ};
+ghost use Rattle.std.specs.Prelude.{cond, map, ◌≡◌, T, ℕ};
 ghost use Rattle.flat.specs.Flat.{found_of, places_of, refs_in, seek};
 ghost use Rattle.rules.specs.Chain.{before_reference, same_reference};
 ghost use Rattle.rules.specs.declared.Reference.{Reference};
@@ -7,6 +7,14 @@ ghost use Rattle.sets.specs.Sets.{ascending, has};
 
 use crate::{Found, Places, Refs};
 use rules::Reference;
+
+// Where the next turn of a search goes on: at the start for a new reference, else at the next place. The searches below count no
+// turns; it stands as a public function.
+pub fn turn(done: bool, next: usize) -> usize
+    ensures { result ≡ cond done 0 next }
+{
+    if done { 0 } else { next }
+}
 
 // Whether references strictly ascend.
 fn rises(refs: &[Reference]) -> bool
