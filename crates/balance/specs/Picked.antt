@@ -1,6 +1,6 @@
 -- What the loops read and leave: pending payments as a block, references found among others, and what is available and
 -- what is made, laid flat.
-use Rattle.std.specs.Prelude.{ℕ, ◌+◌, ◌≤◌, ◌<◌, ◌≡◌, Bool, true, false, not, ◌&&◌, List, map, length, get_or, take}
+use Rattle.std.specs.Prelude.{ℕ, ◌+◌, ◌≤◌, ◌<◌, ◌≡◌, refl, Bool, true, false, not, ◌&&◌, List, map, length, get_or, take}
 use Rattle.std.proofs.Common.{ap, sym, ◌∙◌, arith}
 use Rattle.std.proofs.lemmas.Simd.{map-map}
 use Rattle.sets.specs.Sets.{has, keep}
@@ -111,6 +111,16 @@ available_told w utxo m taken e f g =
     let spent_now = ap refs_in f ∙ refs_back (spent (pending_at 0 (payments_of w))) in
     g ∙ (λ t. made_of (without_references (spent_now t) (unspent t)))
 
+-- the same, of the pending payments as a block and what it takes
+pub free_told :
+    (w : Pool) (pending : Block) (taken : Refs) (m : Made) →
+    pending ≡ block_of (map (λ p. p.transaction) (keep (λ p. marked 0 p.pending) (payments_of w))) → taken ≡ refs_of (spent (view_block pending)) →
+    m ≡ made_of (without_references (refs_in taken) (utxo_at 0 (entries_of w))) → m ≡ made_of (available (view w).present)
+free_told w pending taken m e f g =
+    let unspent = utxo_at 0 (entries_of w) in
+    available_told w (made_of unspent) m taken refl (taken_back (payments_of w) pending taken e f)
+    (g ∙ ap (λ (l : List Entry). made_of (without_references (refs_in taken) l)) (sym (made_back unspent)))
+
 -- what is left of the own outputs without that and without what is available is the change
 pub change_told :
     (w : Pool) (own left free m : Made) (taken here : Refs) →
@@ -150,3 +160,16 @@ own_told w own pending outputs m o e f g =
     ap made_in f ∙ made_back (made (view_block pending)) ∙ ap (λ (b : Block). made (view_block b)) e ∙ ap made (pending_back (payments_of w))
     in
     g ∙ (λ t. made_of (keep (is_own (o t)) (outputs_now t)))
+
+-- the change, of the pending payments as a block, what it takes, and what is left of the unspent outputs
+pub change_made :
+    (w : Pool) (mine : List ℕ) (pending : Block) (outputs own left free m : Made) (taken here : Refs) → mine ≡ take w.owns w.own →
+    pending ≡ block_of (map (λ p. p.transaction) (keep (λ p. marked 0 p.pending) (payments_of w))) → taken ≡ refs_of (spent (view_block pending)) →
+    outputs ≡ made_of (made (view_block pending)) → own ≡ made_of (keep (is_own mine) (made_in outputs)) →
+    left ≡ made_of (without_references (refs_in taken) (made_in own)) →
+    free ≡ made_of (without_references (refs_in taken) (utxo_at 0 (entries_of w))) → here ≡ refs_of (map (λ e. e.reference) (made_in free)) →
+    m ≡ made_of (without_references (refs_in here) (made_in left)) →
+    m ≡ made_of (keep (is_change (take w.owns w.own) (entries_of w) (payments_of w)) (made (pending_at 0 (payments_of w))))
+change_made w mine pending outputs own left free m taken here o e f g h k a r q =
+    change_told w own left free m taken here (own_told w mine pending outputs own o e g h) (taken_back (payments_of w) pending taken e f) k
+    (free_told w pending taken free e f a) r q

@@ -45,13 +45,6 @@ pub fn expected_of(w: Pool) -> Made
     entries_where(&w, |held| held.is_expected())
 }
 
-// What the pending payments take.
-fn taken_of(w: &Pool) -> Refs
-    ensures { result ≡ refs_of (spent (pending_at 0 (payments_of w.now))) }
-{
-    flat::spent_of(flat::pending_block(w))
-}
-
 // The entries of a list whose references do not stand in another.
 fn without(made: Made, refs: Refs) -> Made
     ensures { result ≡ made_of (without_references (refs_in refs) (made_in made)) }
@@ -66,26 +59,30 @@ fn without(made: Made, refs: Refs) -> Made
     kept
 }
 
+// The unspent outputs that are not among what is taken.
+fn untaken(w: &Pool, taken: Refs) -> Made
+    ensures { result ≡ made_of (without_references (refs_in taken) (utxo_at 0 (entries_of w.now))) }
+{
+    without(entries_where(w, |held| held.is_unspent()), taken)
+}
+
 // The unspent outputs that no pending payment takes.
 pub fn available_of(w: Pool) -> Made
     ensures { result ≡ made_of (available (view w).present) }
 {
-    without(utxo_of(w), taken_of(&w))
-}
-
-// The own outputs of the pending payments.
-fn own_made(w: &Pool) -> Made
-    ensures { result ≡ made_of (own_made (take w.now.owns w.now.own) (pending_at 0 (payments_of w.now))) }
-{
-    flat::own_of(flat::made_of(flat::pending_block(w)), w.own())
+    untaken(&w, flat::spent_of(flat::pending_block(&w)))
 }
 
 // The change: own outputs of pending payments that no pending payment takes, and that are not available already.
 pub fn change_of(w: Pool) -> Made
     ensures { result ≡ made_of (keep (is_change (take w.owns w.own) (entries_of w) (payments_of w)) (made (pending_at 0 (payments_of w)))) }
 {
-    let left = without(own_made(&w), taken_of(&w));
-    without(left, flat::made_refs(available_of(w)))
+    let pending = flat::pending_block(&w);
+    let taken = flat::spent_of(pending);
+    let own = flat::own_of(flat::made_of(pending), w.own());
+    let left = without(own, taken);
+    let free = flat::made_refs(untaken(&w, taken));
+    without(left, free)
 }
 
 // Whether every amount is within the limit.

@@ -1,3 +1,4 @@
+pub mod Flagged
 pub mod Lists
 pub mod Merging
 pub mod Room

@@ -1,15 +1,9 @@
 // Mark words, and what a step does to the marks of one entry or one payment.
-ghost use Rattle.std.specs.Prelude.{◌≡◌};
-ghost use Rattle.chain.specs.View.{view_transaction};
-ghost use Rattle.pool.specs.Book.{held_after_block, held_after_rollback, held_marked, payment_after_block, payment_after_rollback, payment_marked};
+ghost use Rattle.std.specs.Prelude.{not, ◌&&◌, ◌||◌, ◌≡◌};
+ghost use Rattle.pool.specs.Book.{held_after_rollback, held_marked, payment_after_rollback, payment_marked};
 ghost use Rattle.pool.specs.Marks.{marked, raised, lowered};
-ghost use Rattle.rules.specs.Chain.{same_entry, same_reference};
-ghost use Rattle.rules.specs.States.{spends};
-ghost use Rattle.sets.specs.Sets.{has};
 
-use chain::Transaction;
 use pool::{Held, Payment};
-use rules::{Entry, Reference};
 
 // A mark word with one state more, or one less, and a new present mark.
 fn raise(word: u8, present: bool) -> u8
@@ -44,28 +38,10 @@ pub(crate) fn payment_marked(payment: Payment) -> bool
     payment.pending != 0
 }
 
-// Whether a list has a reference.
-#[tactic(auto, unfolding(rules::specs::Chain::same_number))]
-pub(crate) fn has_reference(list: &[Reference], reference: Reference) -> bool
-    ensures { result ≡ has same_reference reference list.now }
+// An entry after a block, which may make it as an own output and may spend it.
+pub(crate) fn held_after(held: Held, is_made: bool, is_gone: bool) -> Held
+    ensures { (result.entry ≡ held.entry) × (result.utxo ≡ raised held.utxo ((marked 0 held.utxo || is_made) && not is_gone)) × (result.expected ≡ raised held.expected (marked 0 held.expected && not is_made)) }
 {
-    list.iter().any(|r| reference == *r)
-}
-
-// Whether a list of entries has one of the same reference.
-#[tactic(auto, unfolding(rules::specs::Chain::same_number))]
-fn has_entry(list: &[Entry], entry: Entry) -> bool
-    ensures { result ≡ has same_entry entry list.now }
-{
-    list.iter().any(|e| entry.reference == e.reference)
-}
-
-// An entry after a block with these own outputs and spent references.
-pub(crate) fn held_after(held: Held, made: &[Entry], gone: &[Reference]) -> Held
-    ensures { result ≡ held_after_block made.now gone.now held }
-{
-    let is_made = has_entry(made, held.entry);
-    let is_gone = has_reference(gone, held.entry.reference);
     Held {
         utxo: raise(held.utxo, (held.is_unspent() || is_made) && !is_gone),
         expected: raise(held.expected, held.is_expected() && !is_made),
@@ -73,18 +49,10 @@ pub(crate) fn held_after(held: Held, made: &[Entry], gone: &[Reference]) -> Held
     }
 }
 
-// Whether one of a transaction's inputs is among the spent references.
-fn spends(transaction: &Transaction, gone: &[Reference]) -> bool
-    ensures { result ≡ spends gone.now (view_transaction transaction.now) }
+// A payment after a block, which may spend one of its inputs.
+pub(crate) fn payment_after(payment: Payment, is_gone: bool) -> Payment
+    ensures { (result.transaction ≡ payment.transaction) × (result.pending ≡ raised payment.pending (marked 0 payment.pending && not is_gone)) }
 {
-    transaction.inputs().iter().any(|r| has_reference(gone, *r))
-}
-
-// A payment after a block that spends these references.
-pub(crate) fn payment_after(payment: Payment, gone: &[Reference]) -> Payment
-    ensures { result ≡ payment_after_block gone.now payment }
-{
-    let is_gone = spends(&payment.transaction, gone);
     Payment {
         pending: raise(payment.pending, payment.is_pending() && !is_gone),
         ..payment

@@ -143,27 +143,27 @@ impl Wallet {
     }
 
     // An amount or a count, told where the wallet is sound.
-    fn amount(self, value: u64) -> Amount
-        ensures { result ≡ told_amount (is_sound self) value }
+    fn amount(&self, value: u64) -> Amount
+        ensures { result ≡ told_amount (is_sound self.now) value }
     {
-        let (answer, amount) = queries::told(audit::good_pool(self.pool), value, 0);
+        let (answer, amount) = queries::told(audit::good_pool(self.pool), value, || 0);
         Amount { answer, amount }
     }
 
     // A list of entries, told where the wallet is sound.
-    fn listed(self, value: Made) -> Listed
-        ensures { result ≡ told_list (is_sound self) value }
+    fn listed(&self, value: Made) -> Listed
+        ensures { result ≡ told_list (is_sound self.now) value }
     {
-        let nothing = Made::none(flat::zero_entry());
+        let nothing = || Made::none(flat::zero_entry());
         let (answer, list) = queries::told(audit::good_pool(self.pool), value, nothing);
         Listed { answer, list }
     }
 
     // Payments, told where the wallet is sound.
-    fn payments(self, value: Block) -> Pending
-        ensures { result ≡ told_pending (is_sound self) value }
+    fn payments(&self, value: Block) -> Pending
+        ensures { result ≡ told_pending (is_sound self.now) value }
     {
-        let nothing = queries::no_payment();
+        let nothing = || queries::no_payment();
         let (answer, list) = queries::told(audit::good_pool(self.pool), value, nothing);
         Pending { answer, list }
     }

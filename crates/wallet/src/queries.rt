@@ -6,14 +6,15 @@ use crate::refusal::Refusal;
 use chain::Block;
 use rules::MOST_TRANSACTIONS;
 
-// The answer, and what is told with it.
-pub(crate) fn told<T: Copy>(sound: bool, value: T, nothing: T) -> (u32, T)
-    ensures { result ≡ cond sound (0, value) (9, nothing) }
+// The answer, and what is told with it. Nothing is some kilobytes of zeros, so it is made only where it is told.
+pub(crate) fn told<T: Copy, F: FnOnce() -> T>(sound: bool, value: T, nothing: F) -> (u32, T)
+    requires { F.IsAlwaysCallable nothing }
+    ensures { (n : T) → ((x : T) → F.post nothing x → x ≡ n) → result ≡ cond sound (0, value) (9, n) }
 {
     if sound {
         (0, value)
     } else {
-        (Refusal::NotSound.number(), nothing)
+        (Refusal::NotSound.number(), nothing())
     }
 }
 

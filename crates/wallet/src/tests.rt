@@ -13,19 +13,21 @@ use pool::{Held, Payment, Pool};
 use rules::{Number, Output, Reference};
 
 // Whether a payment has this number. With the next one, a line each: one over a closure that reads the number would be no shorter.
-#[tactic(auto, unfolding(rules::specs::Chain::same_number))]
 fn payments_have(payments: &[Payment], number: Number) -> bool
     ensures { result ≡ any (λ p. same_number number p.transaction.number) payments.now }
 {
-    payments.iter().any(|p| number == p.transaction.number)
+    payments
+        .iter()
+        .any(|p| chain::same_number(number, p.transaction.number))
 }
 
 // Whether an entry's reference has this number.
-#[tactic(auto, unfolding(rules::specs::Chain::same_number))]
 fn entries_have(entries: &[Held], number: Number) -> bool
     ensures { result ≡ any (λ h. same_number number h.entry.reference.number) entries.now }
 {
-    entries.iter().any(|h| number == h.entry.reference.number)
+    entries
+        .iter()
+        .any(|h| chain::same_number(number, h.entry.reference.number))
 }
 
 // Whether either has.
@@ -35,13 +37,11 @@ pub(crate) fn number_used(w: &Pool, number: Number) -> bool
     payments_have(w.payments(), number) || entries_have(w.entries(), number)
 }
 
-// Whether a reference is among some. `has_reference` of booking says the same in the same line: a public function of a library
-// for both would be no shorter than `contains`.
-#[tactic(auto, unfolding(rules::specs::Chain::same_number))]
+// Whether a reference is among some.
 fn is_among(r: &Reference, refs: &[Reference]) -> bool
     ensures { result ≡ has same_reference r.now refs.now }
 {
-    refs.contains(r)
+    refs.iter().any(|x| chain::same_reference(*r, *x))
 }
 
 // Whether each of some references is among others.
@@ -95,11 +95,11 @@ pub(crate) fn paid_out(outputs: &[Output]) -> u64
 }
 
 // Whether a transaction agrees with a payment: not one number with two contents.
-#[tactic(auto, unfolding(rules::specs::Chain::same_number))]
 fn agrees(t: &Transaction, payment: &Payment) -> bool
     ensures { result ≡ (not (same_number t.now.number payment.now.transaction.number) || same_struct t.now payment.now.transaction) }
 {
-    t.number != payment.transaction.number || chain::same_transaction(*t, payment.transaction)
+    !chain::same_number(t.number, payment.transaction.number)
+        || chain::same_transaction(*t, payment.transaction)
 }
 
 // Whether a transaction agrees with each payment.

@@ -1,6 +1,6 @@
 use Rattle.std.proofs.Common.{rules}
-use Rattle.balance.specs.Picked.{available_told}
+use Rattle.balance.specs.Picked.{free_told}
 use Rattle.balance.proofs.available_of.Goals as goal
 
 pub returns : goal.returns
-returns c = search (rules, available_told)
+returns c = search (rules, free_told)
