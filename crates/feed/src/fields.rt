@@ -50,16 +50,20 @@ pub(crate) fn number_at(bytes: &[u8], place: usize, width: usize) -> u64
     value
 }
 
-// A field of some width, with any number in it. Cut short, it faults at its start.
+// A field of some width, with any number in it. Cut short, it faults at its start. Sliced from its place on first: then the
+// one test of the length covers each of its bytes.
 #[tactic(auto, using(crate::specs::Fields::field_cut, crate::specs::Fields::field_whole))]
 pub(crate) fn number(bytes: &[u8], place: usize, width: usize) -> Field
     requires { width ≤ 8 }
     ensures { ReadsField width any_number bytes.now place result }
 {
-    if bytes.len() < place || bytes.len() - place < width {
+    let Some(rest) = bytes.get(place..) else {
+        return Err(Fault { place });
+    };
+    if rest.len() < width {
         return Err(Fault { place });
     }
-    Ok((number_at(bytes, place, width), place + width))
+    Ok((number_at(rest, 0, width), place + width))
 }
 
 // A field with a rule: a number that breaks it faults at the field's start too.
