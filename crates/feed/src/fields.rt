@@ -4,9 +4,8 @@ ghost use Rattle.std.specs.Prelude.{ℕ, Bool, ◌≡◌, ◌&&◌, ◌+◌, ◌
 ghost use Rattle.rules.specs.Sizes.{fewest_inputs, most_inputs};
 ghost use Rattle.format.specs.Fields.{any_number, field, follows, number_at};
 ghost use Rattle.format.specs.Bodies.{address_width, count_width, index_width, input_index_follows, input_number_follows, number_follows, number_of, number_width, output_index_follows};
-ghost use Rattle.feed.specs.Answers.{ReadsField, before, field_read, viewed};
+ghost use Rattle.feed.specs.Answers.{ReadsField, before, field_read, numbered};
 
-use chain::Transaction;
 use rules::{FEWEST_INPUTS, MOST_INPUTS, Number, Output, Reference};
 
 // Widths, in bytes.
@@ -127,14 +126,14 @@ pub(crate) fn number_of(serial: u64) -> Number
 
 // A transaction's number: higher than that of the transaction before.
 #[tactic(auto, unfolding(rules::specs::Chain::before_number))]
-pub(crate) fn transaction_number(bytes: &[u8], place: usize, last: Option<Transaction>) -> Field
-    ensures { ReadsField number_width (follows number_follows (viewed (before last))) bytes.now place result }
+pub(crate) fn transaction_number(bytes: &[u8], place: usize, last: Option<Number>) -> Field
+    ensures { ReadsField number_width (follows number_follows (numbered (before last))) bytes.now place result }
 {
     ruled(
         bytes,
         place,
         NUMBER_WIDTH,
-        |n| last.is_none_or(|last| last.number < number_of(n)),
+        |n| last.is_none_or(|last| last < number_of(n)),
     )
 }
 
