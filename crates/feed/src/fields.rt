@@ -56,12 +56,10 @@ pub(crate) fn number(bytes: &[u8], place: usize, width: usize) -> Field
     requires { width ≤ 8 }
     ensures { ReadsField width any_number bytes.now place result }
 {
-    let Some(rest) = bytes.get(place..) else {
-        return Err(Fault { place });
-    };
-    if rest.len() < width {
+    if bytes.len() < place || bytes.len() - place < width {
         return Err(Fault { place });
     }
+    let rest = &bytes[place..];
     Ok((number_at(rest, 0, width), place + width))
 }
 
