@@ -6,6 +6,7 @@ ghost use Rattle.format.specs.Fields.{any_number, field, follows, number_at};
 ghost use Rattle.format.specs.Bodies.{address_width, count_width, index_width, input_index_follows, input_number_follows, number_follows, number_of, number_width, output_index_follows};
 ghost use Rattle.feed.specs.Answers.{ReadsField, before, field_read, numbered};
 
+use chain::{before_number, same_number};
 use rules::{FEWEST_INPUTS, MOST_INPUTS, Number, Output, Reference};
 
 // Widths, in bytes.
@@ -123,7 +124,6 @@ pub(crate) fn number_of(serial: u64) -> Number
 }
 
 // A transaction's number: higher than that of the transaction before.
-#[tactic(auto, unfolding(rules::specs::Chain::before_number))]
 pub(crate) fn transaction_number(bytes: &[u8], place: usize, last: Option<Number>) -> Field
     ensures { ReadsField number_width (follows number_follows (numbered (before last))) bytes.now place result }
 {
@@ -131,12 +131,11 @@ pub(crate) fn transaction_number(bytes: &[u8], place: usize, last: Option<Number
         bytes,
         place,
         NUMBER_WIDTH,
-        |n| last.is_none_or(|last| last < number_of(n)),
+        |n| last.is_none_or(|last| before_number(last, number_of(n))),
     )
 }
 
 // An input's number: not below that of the input before.
-#[tactic(auto, unfolding(rules::specs::Chain::before_number))]
 pub(crate) fn input_number(bytes: &[u8], place: usize, last: Option<Reference>) -> Field
     ensures { ReadsField number_width (follows input_number_follows (before last)) bytes.now place result }
 {
@@ -144,12 +143,11 @@ pub(crate) fn input_number(bytes: &[u8], place: usize, last: Option<Reference>) 
         bytes,
         place,
         NUMBER_WIDTH,
-        |n| last.is_none_or(|last| last.number <= number_of(n)),
+        |n| last.is_none_or(|last| !before_number(number_of(n), last.number)),
     )
 }
 
 // An input's index: under the number of the input before, higher than its index.
-#[tactic(auto, unfolding(rules::specs::Chain::same_number))]
 pub(crate) fn input_index(bytes: &[u8], place: usize, n: u64, last: Option<Reference>) -> Field
     ensures { ReadsField index_width (follows (input_index_follows n) (before last)) bytes.now place result }
 {
@@ -157,7 +155,9 @@ pub(crate) fn input_index(bytes: &[u8], place: usize, n: u64, last: Option<Refer
         bytes,
         place,
         INDEX_WIDTH,
-        |i| last.is_none_or(|last| number_of(n) != last.number || u64::from(last.index) < i),
+        |i| last.is_none_or(|last| {
+            !same_number(number_of(n), last.number) || u64::from(last.index) < i
+        }),
     )
 }
 
