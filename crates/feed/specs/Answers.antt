@@ -1,5 +1,5 @@
 -- What the code's answers say in the format's words, case by case.
-use Rattle.std.specs.Prelude.{◌≡◌, Bool, List, ℕ, ◌^◌, ◌<◌, T, IfOk, IfErr}
+use Rattle.std.specs.Prelude.{◌≡◌, Bool, List, [], ℕ, ◌^◌, ◌<◌, T, IfOk, IfErr}
 use Rattle.std.specs.Prelude as Std
 use Rattle.std.specs.Prelude.{Some, None, Result, Ok, Err}
 use Rattle.std.proofs.Math.Option.{Option, none, some}
@@ -7,6 +7,7 @@ use Rattle.format.specs.Fields.{Reading, Reader, got, fault, field}
 use Rattle.chain.specs.declared.Transaction.{Transaction}
 use Rattle.chain.specs.View.{view_transaction}
 use Rattle.rules.specs.Chain as Chain
+use Rattle.rules.specs.declared.Number.{Number}
 use Rattle.feed.specs.declared.fields.Fault.{Fault}
 
 module _ {A : Type 0} where
@@ -24,6 +25,11 @@ module _ {A : Type 0} where
 abbrev pub viewed : Option Transaction → Option Chain.Transaction
 viewed none = none
 viewed (some t) = some (view_transaction t)
+
+-- a transaction of a number, for the one before: the next is held against its number alone
+abbrev pub numbered : Option Number → Option Chain.Transaction
+numbered none = none
+numbered (some n) = some (record { number = n; inputs = []; outputs = [] })
 
 -- a reader of one item in view of the one before it
 abbrev pub ItemReader : Type 0 → Type 0

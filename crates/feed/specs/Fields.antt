@@ -1,9 +1,10 @@
 -- A field as the code reads it: first the number that stands there, if it is not cut short, then the rule. Either way a
 -- fault is at the field's start.
-use Rattle.std.specs.Prelude.{◌≡◌, refl, Bool, true, false, cond, ◌&&◌, List, ℕ, ◌+◌, ◌≤◌, ◌<◌, leb, length}
-use Rattle.std.proofs.Common.{ap, ◌∙◌, arith, le-leb}
+use Rattle.std.specs.Prelude.{◌≡◌, refl, Bool, true, false, cond, ◌&&◌, List, ℕ, ◌+◌, ◌-◌, ◌≤◌, ◌<◌, leb, length, take, drop}
+use Rattle.std.specs.List.{slice_range}
+use Rattle.std.proofs.Common.{ap, ◌∙◌, arith, le-leb, length-drop, take_all}
 use Rattle.std.proofs.lemmas.Bool.{lt-leb}
-use Rattle.format.specs.Fields.{Reading, got, fault, number_at, field, any_number}
+use Rattle.format.specs.Fields.{Reading, got, fault, little, number_at, field, any_number}
 
 -- cut short: the fault is at the start
 pub field_cut : (width : ℕ) (rule : ℕ → Bool) (bytes : List ℕ) (place : ℕ) → length bytes < place + width →
@@ -16,6 +17,13 @@ pub field_whole : (width : ℕ) (bytes : List ℕ) (place n : ℕ) → place + w
     got n (place + width) ≡ field width any_number bytes place
 unfolding field
 field_whole width bytes place n h e = rw (le-leb (place + width) (length bytes) h, e) refl
+
+-- the number that stands at a place is the first of what the bytes have from there on
+pub number_rest : (width : ℕ) (bytes : List ℕ) (place : ℕ) →
+    number_at width (slice_range bytes place (length bytes)) 0 ≡ number_at width bytes place
+number_rest width bytes place =
+    ap (λ (l : List ℕ). little (take width l))
+    (take_all (length bytes - place) (drop place bytes) (omega (arith, length-drop place bytes)))
 
 -- where any number faults, every rule faults, at the start
 pub rule_fault : (width : ℕ) (rule : ℕ → Bool) (bytes : List ℕ) (place p : ℕ) → fault p ≡ field width any_number bytes place →

@@ -12,7 +12,7 @@ use Rattle.rules.specs.Chain as Chain
 use Rattle.chain.specs.declared.Transaction.{Transaction}
 use Rattle.format.specs.Fields.{Reading, got, fault, onward, items}
 use Rattle.format.specs.Bodies.{read_input, read_output, read_transaction}
-use Rattle.feed.specs.Answers.{viewed}
+use Rattle.feed.specs.Answers.{numbered, viewed}
 use Rattle.feed.specs.Structs.{struct_of, formed, read_lists, struct_reader}
 use Rattle.feed.specs.Items.{items_length}
 
@@ -29,6 +29,12 @@ lists_read number takes makes bytes place at next l inputs m outputs e g f h =
     let j = items_length read_output bytes makes none at m next f in
     (λ i. got (record { number = number; inputs = g i; takes = sym k i; outputs = h i; makes = sym j i }) next)
     ∙ rw (e, f) refl
+
+-- of the transaction before only the number matters
+pub number_alone : (t : Transaction) (bytes : List ℕ) (place : ℕ) →
+    read_transaction (numbered (some t.number)) bytes place ≡ read_transaction (viewed (some t)) bytes place
+unfolding read_transaction
+number_alone t bytes place = refl
 
 -- ── transactions one after another
 

@@ -4,9 +4,9 @@ ghost use Rattle.std.specs.Prelude.{ℕ, Bool, ◌≡◌, ◌&&◌, ◌+◌, ◌
 ghost use Rattle.rules.specs.Sizes.{fewest_inputs, most_inputs};
 ghost use Rattle.format.specs.Fields.{any_number, field, follows, number_at};
 ghost use Rattle.format.specs.Bodies.{address_width, count_width, index_width, input_index_follows, input_number_follows, number_follows, number_of, number_width, output_index_follows};
-ghost use Rattle.feed.specs.Answers.{ReadsField, before, field_read, viewed};
+ghost use Rattle.feed.specs.Answers.{ReadsField, before, field_read, numbered};
 
-use chain::Transaction;
+use chain::{before_number, same_number};
 use rules::{FEWEST_INPUTS, MOST_INPUTS, Number, Output, Reference};
 
 // Widths, in bytes.
@@ -50,7 +50,8 @@ pub(crate) fn number_at(bytes: &[u8], place: usize, width: usize) -> u64
     value
 }
 
-// A field of some width, with any number in it. Cut short, it faults at its start.
+// A field of some width, with any number in it. Cut short, it faults at its start. Sliced from its place on first: then the
+// one test of the length covers each of its bytes.
 #[tactic(auto, using(crate::specs::Fields::field_cut, crate::specs::Fields::field_whole))]
 pub(crate) fn number(bytes: &[u8], place: usize, width: usize) -> Field
     requires { width ≤ 8 }
@@ -59,7 +60,8 @@ pub(crate) fn number(bytes: &[u8], place: usize, width: usize) -> Field
     if bytes.len() < place || bytes.len() - place < width {
         return Err(Fault { place });
     }
-    Ok((number_at(bytes, place, width), place + width))
+    let rest = &bytes[place..];
+    Ok((number_at(rest, 0, width), place + width))
 }
 
 // A field with a rule: a number that breaks it faults at the field's start too.
@@ -122,20 +124,18 @@ pub(crate) fn number_of(serial: u64) -> Number
 }
 
 // A transaction's number: higher than that of the transaction before.
-#[tactic(auto, unfolding(rules::specs::Chain::before_number))]
-pub(crate) fn transaction_number(bytes: &[u8], place: usize, last: Option<Transaction>) -> Field
-    ensures { ReadsField number_width (follows number_follows (viewed (before last))) bytes.now place result }
+pub(crate) fn transaction_number(bytes: &[u8], place: usize, last: Option<Number>) -> Field
+    ensures { ReadsField number_width (follows number_follows (numbered (before last))) bytes.now place result }
 {
     ruled(
         bytes,
         place,
         NUMBER_WIDTH,
-        |n| last.is_none_or(|last| last.number < number_of(n)),
+        |n| last.is_none_or(|last| before_number(last, number_of(n))),
     )
 }
 
 // An input's number: not below that of the input before.
-#[tactic(auto, unfolding(rules::specs::Chain::before_number))]
 pub(crate) fn input_number(bytes: &[u8], place: usize, last: Option<Reference>) -> Field
     ensures { ReadsField number_width (follows input_number_follows (before last)) bytes.now place result }
 {
@@ -143,12 +143,11 @@ pub(crate) fn input_number(bytes: &[u8], place: usize, last: Option<Reference>) 
         bytes,
         place,
         NUMBER_WIDTH,
-        |n| last.is_none_or(|last| last.number <= number_of(n)),
+        |n| last.is_none_or(|last| !before_number(number_of(n), last.number)),
     )
 }
 
 // An input's index: under the number of the input before, higher than its index.
-#[tactic(auto, unfolding(rules::specs::Chain::same_number))]
 pub(crate) fn input_index(bytes: &[u8], place: usize, n: u64, last: Option<Reference>) -> Field
     ensures { ReadsField index_width (follows (input_index_follows n) (before last)) bytes.now place result }
 {
@@ -156,7 +155,9 @@ pub(crate) fn input_index(bytes: &[u8], place: usize, n: u64, last: Option<Refer
         bytes,
         place,
         INDEX_WIDTH,
-        |i| last.is_none_or(|last| number_of(n) != last.number || u64::from(last.index) < i),
+        |i| last.is_none_or(|last| {
+            !same_number(number_of(n), last.number) || u64::from(last.index) < i
+        }),
     )
 }
 

@@ -12,6 +12,7 @@ use crate::fields::{
     ADDRESS_WIDTH, AMOUNT_WIDTH, Fault, address, input_index, input_number, number, number_of,
     output_index, up_to,
 };
+use chain::{zero_output, zero_reference};
 use rules::{LARGEST_AMOUNT, MOST_INPUTS, MOST_OUTPUTS, Output, Reference};
 
 // A reading's answer: the next place, or a fault's place.
@@ -134,7 +135,7 @@ pub(crate) fn read_inputs(
     read_items(
         place,
         count,
-        Reference::default(),
+        zero_reference(),
         |at, last| read_input(bytes, at, last),
     )
 }
@@ -146,7 +147,7 @@ pub(crate) fn read_outputs(bytes: &[u8], place: usize, count: usize) -> Read<[Ou
     read_items(
         place,
         count,
-        Output::default(),
+        zero_output(),
         |at, last| read_output(bytes, at, last),
     )
 }

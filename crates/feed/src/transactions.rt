@@ -1,7 +1,8 @@
 // Transactions: number, counts, inputs and outputs.
 ghost use Rattle.std.specs.Prelude.{◌≡◌, ◌≤◌};
 ghost use Rattle.rules.specs.Sizes.{most_inputs, most_outputs};
-ghost use Rattle.feed.specs.Answers.{before, field_read};
+ghost use Rattle.format.specs.Bodies.{read_transaction};
+ghost use Rattle.feed.specs.Answers.{before, field_read, numbered};
 ghost use Rattle.feed.specs.Structs.{formed, read_lists, struct_of, struct_reader};
 
 use crate::fields::{COUNT_WIDTH, Fault, input_count, number_of, transaction_number, up_to};
@@ -42,14 +43,10 @@ fn read_lists(
     Ok((transaction, next))
 }
 
-// A transaction: number, held against the transaction before in a block, counts, inputs, outputs.
+// A transaction: number, held against that of the transaction before in a block, counts, inputs, outputs.
 #[tactic(auto, unfolding(format::specs::Bodies::read_transaction, crate::specs::Structs::read_lists))]
-pub(crate) fn read_transaction(
-    bytes: &[u8],
-    place: usize,
-    last: Option<Transaction>,
-) -> Item<Transaction>
-    ensures { field_read result ≡ struct_reader (before last) bytes.now place }
+fn read_after(bytes: &[u8], place: usize, last: Option<Number>) -> Item<Transaction>
+    ensures { field_read result ≡ formed struct_of (read_transaction (numbered (before last)) bytes.now place) }
 {
     let Ok((n, takes_at)) = transaction_number(bytes, place, last) else {
         return Err(Fault { place });
@@ -67,4 +64,20 @@ pub(crate) fn read_transaction(
         takes as usize,
         makes as usize,
     )
+}
+
+// A transaction in view of the one before it in a block. Only the number of that one is handed on: handing on the whole
+// copies it each time.
+#[tactic(auto, using(crate::specs::Transactions::number_alone))]
+pub(crate) fn read_transaction(
+    bytes: &[u8],
+    place: usize,
+    last: Option<Transaction>,
+) -> Item<Transaction>
+    ensures { field_read result ≡ struct_reader (before last) bytes.now place }
+{
+    match last {
+        Some(last) => read_after(bytes, place, Some(last.number)),
+        None => read_after(bytes, place, None),
+    }
 }
