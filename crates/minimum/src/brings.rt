@@ -47,25 +47,23 @@ pub(crate) fn word_of<T, F: Fn(&T) -> bool>(payments: &[T], test: F) -> u32
 }
 
 // Whether a payment brings a number's entries for certain: by an input outside the UTxO that no pending payment makes.
-#[tactic(auto, unfolding(rules::specs::Chain::same_number))]
 fn brings_hard(number: Number, taking: &Taking) -> bool
     ensures { result ≡ takes_hard number taking.now }
 {
-    taking
-        .inputs()
-        .iter()
-        .any(|i| i.reference.number == number && !i.utxo && !i.made)
+    taking.inputs().iter().any(|i| {
+        let same = chain::same_number(i.reference.number, number);
+        same && !i.utxo && !i.made
+    })
 }
 
 // Whether it does unless the number's payment is chosen: by an input outside the UTxO that a pending payment makes.
-#[tactic(auto, unfolding(rules::specs::Chain::same_number))]
 fn brings_soft(number: Number, taking: &Taking) -> bool
     ensures { result ≡ takes_soft number taking.now }
 {
-    taking
-        .inputs()
-        .iter()
-        .any(|i| i.reference.number == number && !i.utxo && i.made)
+    taking.inputs().iter().any(|i| {
+        let same = chain::same_number(i.reference.number, number);
+        same && !i.utxo && i.made
+    })
 }
 
 // Whether an own one of some outputs has the reference's index.
