@@ -60,7 +60,7 @@ of_same y r t =
     (not_T (before_reference y r) (before_reference_never y r s))
     ∙ cond_true (same_reference y r) Equal Greater s
 
--- where each that is not lower is neither before nor the same
+-- one is no higher than another where it is before whenever the other is before or the same
 lower :
     (b s c t : Bool) → (T c → T b) → (T t → T b) →
     ordering_index (cond b Less (cond s Equal Greater)) ≤ ordering_index (cond c Less (cond t Equal Greater))
