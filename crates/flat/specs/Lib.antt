@@ -1,4 +1,5 @@
 pub mod Flat
+pub mod Inner
 pub mod Slots
 pub mod SeekLaws
 pub mod Searches

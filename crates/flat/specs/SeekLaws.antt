@@ -1,6 +1,6 @@
 -- Where a reference stands in a list: the place of the first same one, below the length exactly where there is one, and
 -- the only such place where no two are the same.
-use Rattle.std.specs.Prelude.{ℕ, zero, suc, ◌≤◌, ◌<◌, ◌≡◌, refl, true, false, not, cond, ◌||◌, List, map, [], ◌∷◌, T, ltb, length, get_or}
+use Rattle.std.specs.Prelude.{ℕ, zero, suc, ◌≤◌, ◌<◌, ◌≡◌, refl, true, false, not, cond, ◌||◌, List, map, [], ◌∷◌, T, ltb, length, get_or, take}
 use Rattle.std.proofs.Common.{sym, ap, subst, ◌∙◌, ⊎_elim, not-suc-le-zero, le_of_suc-le-suc, arith, T_not}
 use Rattle.std.proofs.Math.Dec.{not_T, leb-zero, leb-suc-suc}
 use Rattle.sets.specs.Sets.{has, ascending}
@@ -51,6 +51,19 @@ seek_none r (x ∷ l) t =
       | false ↦ λ (h : T (not (has same_reference r l))). ap suc (seek_none r l h)
     ])
     t
+
+-- the first that is the same
+pub seek_first :
+    (r : Reference) (l : List Reference) (j : ℕ) (d : Reference) → j < length l →
+    T (not (has same_reference r (take j l))) → T (same_reference r (get_or l j d)) → seek r l ≡ j
+seek_first r [] j d h n t = absurd (not-suc-le-zero h)
+seek_first r (x ∷ l) zero d h n t = cond_true (same_reference r x) 0 (suc (seek r l)) t
+seek_first r (x ∷ l) (suc j) d h n t =
+    (elim (same_reference r x) as (λ b. T (not (b || has same_reference r (take j l))) → cond b 0 (suc (seek r l)) ≡ suc j) [
+      | true ↦ λ (k : ⊥). absurd k
+      | false ↦ λ (k : T (not (has same_reference r (take j l)))). ap suc (seek_first r l j d (le_of_suc-le-suc h) k t)
+    ])
+    n
 
 -- in an ascending list there is one such place
 pub seek_one :

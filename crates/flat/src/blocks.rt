@@ -91,7 +91,7 @@ fn push_slots(refs: &mut Refs, transaction: &Transaction)
     refs.extend(&transaction.inputs);
 }
 
-// The inputs of all payments, every place of each, used or not. No crate asks for it today.
+// The inputs of all payments, every place of each, used or not.
 pub fn slots_of(w: &Pool) -> Refs
     ensures { result ≡ refs_of (gather (λ p. p.transaction.inputs) (payments_of w.now)) }
 {
