@@ -3,6 +3,7 @@
 
 ghost use Rattle.std.specs.Prelude.{◌≡◌, ◌≤◌, IfOk, suc, length};
 ghost use Rattle.format.specs.Feed.{most_bytes};
+ghost use Rattle.lines.specs.Lengths.{most_sheet};
 
 use lines::MOST_SHEET;
 use std::io;
@@ -11,11 +12,17 @@ use std::io::{Read, Write};
 // One byte more than the longest feed, so that a longer one is seen to be too long.
 const MOST_INPUT: usize = 65_537;
 
-// Zeros to read into. The `ensures` ties the size to the definition's.
+// Zeros to read into, and to write a sheet into. Each `ensures` ties the size to the definition's.
 fn input() -> [u8; MOST_INPUT]
     ensures { suc most_bytes ≡ length result }
 {
     [0; MOST_INPUT]
+}
+
+fn output() -> [u8; MOST_SHEET]
+    ensures { most_sheet ≡ length result }
+{
+    [0; MOST_SHEET]
 }
 
 // Reads until the buffer is full or the input ends, and says how many bytes stand at its start. Each read is lent the whole
@@ -38,7 +45,7 @@ fn read_full(input: &mut impl Read, buffer: &mut [u8]) -> io::Result<usize>
 fn main(rt: HostRuntime) -> io::Result<()> {
     let mut feed = input();
     let size = read_full(&mut rt.stdin(), &mut feed)?;
-    let mut sheet = [0u8; MOST_SHEET];
+    let mut sheet = output();
     let written = lines::sheet_of(&feed[..size], &mut sheet);
     rt.stdout().write_all(&sheet[..written.length])
 }
