@@ -3,6 +3,8 @@
 // cut of the body is read, the empty one first, with mark 0 the whole body alone.
 #![tactic(auto)]
 
+ghost use Rattle.std.specs.Prelude.{◌≤◌, IfOk, length};
+
 use feed::bodies::Body;
 use std::io;
 use std::io::Read;
@@ -51,11 +53,25 @@ fn items(rt: &impl Print, list: &[u8]) -> io::Result<()> {
     Ok(())
 }
 
-// Read in each program: a library's function would be public, and no contract of one can say what an input gives.
+// Reads until the buffer is full or the input ends, and says how many bytes stand at its start. Each read is lent the whole
+// rest of the buffer: of a socket's message all is lost that was not asked for. In each program: a library's function would
+// be public, and no contract of one can say what an input gives.
+fn read_full(input: &mut impl Read, buffer: &mut [u8]) -> io::Result<usize>
+    ensures { IfOk result (λ n. n ≤ length buffer.new) }
+{
+    let mut done = 0;
+    while done < buffer.len() {
+        let n = input.read(&mut buffer[done..])?;
+        if n == 0 {
+            break;
+        }
+        done += n;
+    }
+    Ok(done)
+}
+
 fn main(rt: HostRuntime) -> io::Result<()> {
     let mut buffer = [0u8; MOST_BYTES];
-    let mut input = rt.stdin().take(MOST_BYTES as u64);
-    // never more than the buffer holds, which no clause of `copy` says
-    let n = io::copy(&mut input, &mut &mut buffer[..])? as usize;
-    items(&rt, &buffer[..n.min(MOST_BYTES)])
+    let n = read_full(&mut rt.stdin(), &mut buffer)?;
+    items(&rt, &buffer[..n])
 }

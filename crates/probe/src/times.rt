@@ -1,4 +1,7 @@
 // The same work many times over, for measuring. No turn can be left out: what each works on hangs on the answer before it.
+ghost use Rattle.std.specs.Prelude.{◌≡◌, length};
+ghost use Rattle.lines.specs.Lengths.{most_sheet};
+
 use crate::events::{last_wallet, unopened};
 use lines::MOST_SHEET;
 use minimum::Least;
@@ -24,10 +27,17 @@ pub(crate) fn print_minimum(rt: &impl Print, feed: &[u8], count: u32) -> io::Res
     println!(rt; "{} {}", least.amount, least.payments)
 }
 
+// Zeros to write a sheet into. The `ensures` ties the size to the definition's.
+fn blank() -> [u8; MOST_SHEET]
+    ensures { most_sheet ≡ length result }
+{
+    [0; MOST_SHEET]
+}
+
 // The length of a feed's sheet, written so many times over. The next turn takes all of the feed, unless the buffer was too
 // short, which it never is.
 fn written(feed: &[u8], count: u32) -> usize {
-    let mut out = [0u8; MOST_SHEET];
+    let mut out = blank();
     let mut part = feed;
     let mut length = 0;
     for _ in 0..count {

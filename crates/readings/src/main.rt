@@ -14,6 +14,8 @@
 // The first letter of a word decides; the others are for the reader.
 #![tactic(auto)]
 
+ghost use Rattle.std.specs.Prelude.{◌≤◌, IfOk, length};
+
 use desk::Desk;
 use line::Lines;
 use std::io;
@@ -37,11 +39,25 @@ fn run(rt: &impl Print, text: &[u8]) -> io::Result<()> {
     Ok(())
 }
 
-// Read in each program: a library's function would be public, and no contract of one can say what an input gives.
+// Reads until the buffer is full or the input ends, and says how many bytes stand at its start. Each read is lent the whole
+// rest of the buffer: of a socket's message all is lost that was not asked for. In each program: a library's function would
+// be public, and no contract of one can say what an input gives.
+fn read_full(input: &mut impl Read, buffer: &mut [u8]) -> io::Result<usize>
+    ensures { IfOk result (λ n. n ≤ length buffer.new) }
+{
+    let mut done = 0;
+    while done < buffer.len() {
+        let n = input.read(&mut buffer[done..])?;
+        if n == 0 {
+            break;
+        }
+        done += n;
+    }
+    Ok(done)
+}
+
 fn main(rt: HostRuntime) -> io::Result<()> {
     let mut buffer = [0u8; MOST_INPUT];
-    let mut input = rt.stdin().take(MOST_INPUT as u64);
-    // never more than the buffer holds, which no clause of `copy` says
-    let n = io::copy(&mut input, &mut &mut buffer[..])? as usize;
-    run(&rt, &buffer[..n.min(MOST_INPUT)])
+    let n = read_full(&mut rt.stdin(), &mut buffer)?;
+    run(&rt, &buffer[..n])
 }
