@@ -50,8 +50,8 @@ pub(crate) fn number_at(bytes: &[u8], place: usize, width: usize) -> u64
     value
 }
 
-// A field of some width, with any number in it. Cut short, it faults at its start. Sliced from its place on first: then the
-// one test of the length covers each of its bytes.
+// A field of some width, with any number in it. Cut short, it faults at its start. It is read from the slice from its place
+// on: by that slice's length the compiler knows its bytes to be there.
 #[tactic(auto, using(crate::specs::Fields::field_cut, crate::specs::Fields::field_whole))]
 pub(crate) fn number(bytes: &[u8], place: usize, width: usize) -> Field
     requires { width ≤ 8 }
