@@ -30,14 +30,14 @@ pub told_amount_one : {r : Amount} {flag : Bool} (test : Bool) {n m : ℕ} → r
 told_amount_one test {n} {m} e f g = e ∙ ap (λ (b : Bool). told_amount b n) f ∙ same_where test n m g
 
 -- what a query hands back, from the answer and what is told with it
-pub amount_told : (sound : Bool) (n : ℕ) (r : ℕ × ℕ) → r ≡ cond sound (0, n) (9, 0) → record { answer = r.0; amount = r.1 } ≡ told_amount sound n
-amount_told true n r e = λ t. record { answer = (e t).0; amount = (e t).1 }
-amount_told false n r e = λ t. record { answer = (e t).0; amount = (e t).1 }
+pub told_amount_from : (sound : Bool) (n : ℕ) (r : ℕ × ℕ) → r ≡ cond sound (0, n) (9, 0) → record { answer = r.0; amount = r.1 } ≡ told_amount sound n
+told_amount_from true n r e = λ t. record { answer = (e t).0; amount = (e t).1 }
+told_amount_from false n r e = λ t. record { answer = (e t).0; amount = (e t).1 }
 
-pub list_told : (sound : Bool) (list : Made) (r : ℕ × Made) → r ≡ cond sound (0, list) (9, made_of []) → record { answer = r.0; list = r.1 } ≡ told_list sound list
-list_told true list r e = λ t. record { answer = (e t).0; list = (e t).1 }
-list_told false list r e = λ t. record { answer = (e t).0; list = (e t).1 }
+pub told_list_from : (sound : Bool) (list : Made) (r : ℕ × Made) → r ≡ cond sound (0, list) (9, made_of []) → record { answer = r.0; list = r.1 } ≡ told_list sound list
+told_list_from true list r e = λ t. record { answer = (e t).0; list = (e t).1 }
+told_list_from false list r e = λ t. record { answer = (e t).0; list = (e t).1 }
 
-pub pending_told : (sound : Bool) (list : Block) (r : ℕ × Block) → r ≡ cond sound (0, list) (9, block_of []) → record { answer = r.0; list = r.1 } ≡ told_pending sound list
-pending_told true list r e = λ t. record { answer = (e t).0; list = (e t).1 }
-pending_told false list r e = λ t. record { answer = (e t).0; list = (e t).1 }
+pub told_pending_from : (sound : Bool) (list : Block) (r : ℕ × Block) → r ≡ cond sound (0, list) (9, block_of []) → record { answer = r.0; list = r.1 } ≡ told_pending sound list
+told_pending_from true list r e = λ t. record { answer = (e t).0; list = (e t).1 }
+told_pending_from false list r e = λ t. record { answer = (e t).0; list = (e t).1 }

@@ -1,11 +1,11 @@
 use Rattle.std.proofs.Common.{rules, ◌∙◌, Bool, [], ap, cond}
 use Rattle.flat.specs.Flat.{made_of}
 use Rattle.pool.specs.Good.{good}
-use Rattle.wallet.specs.Told.{list_told}
+use Rattle.wallet.specs.Told.{told_list_from}
 use Rattle.wallet.proofs.Wallet.listed.Goals as goal
 
 pub returns : goal.returns
 returns c =
-    list_told (good c.args.self.now.pool) c.args.value c.told-answer.result
+    told_list_from (good c.args.self.now.pool) c.args.value c.told-answer.result
     (c.told-answer.ensures (made_of []) (λ x h. search rules)
     ∙ ap (λ (b : Bool). cond b (0, c.args.value) (9, (made_of []))) c.good_pool.ensures)
