@@ -57,8 +57,9 @@ impl Block {
     }
 }
 
-// The two tests of a transaction number, by its own equality and order. Whatever compares numbers or references goes through
-// them, so that the width of a number can change in one place.
+// The two tests of a transaction number, by its own equality and order. Numbers and references are compared through them, but
+// for `==` of whole structs and `binary_search`, of which laws of rules say that they compare the same. So the width of a number
+// can change in one place.
 #[tactic(auto, unfolding(rules::specs::Chain::same_number))]
 pub fn same_number(m: Number, n: Number) -> bool
     ensures { result ≡ same_number m n }
